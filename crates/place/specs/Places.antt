@@ -1,0 +1,92 @@
+-- Document 01, "What the box remembers", the part on one place.
+-- Defines: phaseNumber, tries, directionNumber; tryLimit; vacant, seat, isFree, holds; placeOk.
+use Prim.Native.Nat.{ℕ}
+use mathlib.Core.Bool.{Bool, true, false, _&&_}
+use lib.Dec.{leb}
+use Rattle.record.specs.Partners.{isRbc, partnerOk, samePartner}
+use Rattle.record.specs.declared.partner.Partner.{Partner}
+use Rattle.place.specs.declared.phase.Phase.{Phase}
+use Rattle.place.specs.declared.phase.Phase.the-variants.{Connecting, Contacting, Open, Lost, Ending}
+use Rattle.place.specs.declared.seat.Direction.{Direction}
+use Rattle.place.specs.declared.seat.Direction.the-variants.{Outgoing, Incoming}
+use Rattle.place.specs.declared.seat.Holding.{Holding}
+use Rattle.place.specs.declared.seat.Holding.the-variants.{Free, Held}
+use Rattle.place.specs.declared.seat.Place.{Place}
+
+-- "Phases: 1 Connecting, 2 Contacting, 3 Open, 4 Lost, 5 Ending"
+abbrev pub phaseNumber : Phase → ℕ
+phaseNumber (Connecting t) = 1
+phaseNumber (Contacting t) = 2
+phaseNumber Open = 3
+phaseNumber (Lost t) = 4
+phaseNumber (Ending t) = 5
+
+-- "Tries: 1 to 3, but 0 in Open"
+abbrev pub tries : Phase → ℕ
+tries (Connecting t) = t
+tries (Contacting t) = t
+tries Open = 0
+tries (Lost t) = t
+tries (Ending t) = t
+
+-- "Direction: 0 outgoing, 1 incoming"
+abbrev pub directionNumber : Direction → ℕ
+directionNumber Outgoing = 0
+directionNumber Incoming = 1
+
+-- "The limit of three tries is ours": put in for the n of the definitions, here and nowhere else
+abbrev pub tryLimit : ℕ
+tryLimit = 3
+
+-- a free place
+abbrev pub vacant : Place
+vacant = record { holding = Free }
+
+-- a place that holds a partner
+abbrev pub seat : Direction → Phase → Partner → Place
+seat d ph p = record { holding = Held d ph p }
+
+abbrev pub isFreeHolding : Holding → Bool
+isFreeHolding Free = true
+isFreeHolding (Held d ph p) = false
+
+-- the place is free
+abbrev pub isFree : Place → Bool
+isFree place = isFreeHolding (place .holding)
+
+abbrev pub holdsIn : Partner → Holding → Bool
+holdsIn p Free = false
+holdsIn p (Held d ph q) = samePartner p q
+
+-- the place holds this partner
+abbrev pub holds : Partner → Place → Bool
+holds p place = holdsIn p (place .holding)
+
+-- the tries used are in their range, n being the limit
+abbrev pub phaseOk : ℕ → Phase → Bool
+phaseOk n (Connecting t) = leb 1 t && leb t n
+phaseOk n (Contacting t) = leb 1 t && leb t n
+phaseOk n Open = true
+phaseOk n (Lost t) = leb 1 t && leb t n
+phaseOk n (Ending t) = leb 1 t && leb t n
+
+-- "Connecting and Contacting are outgoing": the phases that an incoming place may have
+abbrev pub incomingPhase : Phase → Bool
+incomingPhase (Connecting t) = false
+incomingPhase (Contacting t) = false
+incomingPhase Open = true
+incomingPhase (Lost t) = true
+incomingPhase (Ending t) = true
+
+-- "no RIU is incoming, Connecting and Contacting are outgoing"
+abbrev pub directionOk : Direction → Phase → Partner → Bool
+directionOk Outgoing ph p = true
+directionOk Incoming ph p = isRbc p && incomingPhase ph
+
+abbrev pub holdingOk : ℕ → Holding → Bool
+holdingOk n Free = true
+holdingOk n (Held d ph p) = partnerOk p && (phaseOk n ph && directionOk d ph p)
+
+-- the place is sound by itself
+abbrev pub placeOk : ℕ → Place → Bool
+placeOk n place = holdingOk n (place .holding)

@@ -1,0 +1,204 @@
+-- Document 01, "Rules of one step", the part on one place: the phase table, closing, judging a version.
+-- Defines: the six actions; Cell and table; closing, judged, again, play; turn; numbers, placeAfter; due, shut, shutting.
+use Prim.Native.Nat.{ℕ, _+_, _/_}
+use mathlib.Core.Bool.{Bool, true, false, cond, _&&_}
+use mathlib.Core.List.{List, [], _∷_}
+use lib.Dec.{leb, ltb}
+use lib.ListN.{getD}
+use Rattle.record.specs.Partners.{isRbc}
+use Rattle.record.specs.declared.partner.Partner.{Partner}
+use Rattle.record.specs.declared.event.PartnerEvent.{PartnerEvent}
+use Rattle.record.specs.declared.event.PartnerEvent.the-variants.{Drop, Up, Loss, Timeout, Version, Ended}
+use Rattle.place.specs.Places.{tries, vacant, seat}
+use Rattle.place.specs.declared.phase.Phase.{Phase}
+use Rattle.place.specs.declared.phase.Phase.the-variants.{Connecting, Contacting, Open, Lost, Ending}
+use Rattle.place.specs.declared.seat.Holding.{Holding}
+use Rattle.place.specs.declared.seat.Holding.the-variants.{Free, Held}
+use Rattle.place.specs.declared.seat.Place.{Place}
+use Rattle.place.specs.declared.turn.Limits.{Limits}
+use Rattle.place.specs.declared.turn.Turn.{Turn}
+use Rattle.place.specs.declared.turn.Turn.the-variants.{Refused, Released, Becomes, Sends, SendsBoth}
+use Rattle.place.specs.declared.turn.Due.{Due}
+use Rattle.place.specs.declared.turn.Due.the-variants.{Every, Sessions, Nothing}
+
+-- "21 request connection, 22 release (also withdraws a request)"
+abbrev pub request : ℕ
+request = 21
+
+abbrev pub release : ℕ
+release = 22
+
+-- "154 no compatible version, 155 initiate, 156 terminate, 159 established"
+abbrev pub incompatible : ℕ
+incompatible = 154
+
+abbrev pub initiate : ℕ
+initiate = 155
+
+abbrev pub terminate : ℕ
+terminate = 156
+
+abbrev pub established : ℕ
+established = 159
+
+-- a cell of the phase table
+pub data Cell : Type 0 where
+  -- "no"
+  refuse : Cell
+  -- "close"
+  close : Cell
+  -- "22; free"
+  free : Cell
+  -- the action and the next phase, as "155; Contacting 1"
+  turnTo : ℕ → Phase → Cell
+  -- the next phase with no action, as "Open"
+  become : Phase → Cell
+  -- a timeout's action
+  retry : ℕ → Cell
+  -- "judge"
+  judge : Cell
+
+-- the table of 01, a row for each phase
+abbrev pub table : Phase → List Cell
+--                     drop     up                          lost                timeout     32       39
+table (Connecting t) = close ∷ turnTo 155 (Contacting 1) ∷ refuse ∷ retry 21 ∷ refuse ∷ refuse ∷ []
+table (Contacting t) = close ∷ refuse ∷ free ∷ retry 155 ∷ judge ∷ refuse ∷ []
+table Open = close ∷ refuse ∷ turnTo 21 (Lost 1) ∷ refuse ∷ refuse ∷ refuse ∷ []
+table (Lost t) = close ∷ become Open ∷ refuse ∷ retry 21 ∷ refuse ∷ refuse ∷ []
+table (Ending t) = refuse ∷ refuse ∷ free ∷ retry 156 ∷ refuse ∷ free ∷ []
+
+-- the column of the table that an event stands in
+abbrev pub column : PartnerEvent → ℕ
+column Drop = 0
+column Up = 1
+column Loss = 2
+column Timeout = 3
+column (Version v) = 4
+column Ended = 5
+
+abbrev pub cell : Phase → PartnerEvent → Cell
+cell ph e = getD (table ph) (column e) refuse
+
+-- the first try in a phase
+abbrev pub firstTry : ℕ
+firstTry = 1
+
+-- "Closing a place: Connecting, Contacting or Lost gives 22 and frees it; Open gives 156 and becomes Ending, tries 1"; an Ending place is not closed
+abbrev pub closing : Phase → Turn
+closing (Connecting t) = Released
+closing (Contacting t) = Released
+closing Open = Sends terminate (Ending firstTry)
+closing (Lost t) = Released
+closing (Ending t) = Refused
+
+-- the X of a version, 16·X + Y
+abbrev pub xOf : ℕ → ℕ
+xOf version = version / 16
+
+-- "X within the supported range"
+abbrev pub supported : Limits → ℕ → Bool
+supported l version = leb (l .lowest) (xOf version) && leb (xOf version) (l .highest)
+
+-- "Judge: X within the supported range gives 159 and Open; else 154, then 156, and Ending, tries 1"
+abbrev pub judged : Limits → ℕ → Turn
+judged l version = cond (supported l version) (Sends established Open) (SendsBoth incompatible terminate (Ending firstTry))
+
+-- one more try in the same phase
+abbrev pub oneMore : Phase → Phase
+oneMore (Connecting t) = Connecting (t + 1)
+oneMore (Contacting t) = Contacting (t + 1)
+oneMore Open = Open
+oneMore (Lost t) = Lost (t + 1)
+oneMore (Ending t) = Ending (t + 1)
+
+-- "Timeout gives the action shown and one more try while tries are 1 or 2; at 3 it gives 22 and frees the place": while fewer than n were used
+abbrev pub again : ℕ → ℕ → Phase → Turn
+again n number ph = cond (ltb (tries ph) n) (Sends number (oneMore ph)) Released
+
+-- the version that an event carries
+abbrev pub versionOf : PartnerEvent → ℕ
+versionOf Drop = 0
+versionOf Up = 0
+versionOf Loss = 0
+versionOf Timeout = 0
+versionOf (Version v) = v
+versionOf Ended = 0
+
+-- what a cell makes of a phase, n being the limit of tries
+abbrev pub play : ℕ → Limits → Phase → ℕ → Cell → Turn
+play n l ph version refuse = Refused
+play n l ph version close = closing ph
+play n l ph version free = Released
+play n l ph version (turnTo number next) = Sends number next
+play n l ph version (become next) = Becomes next
+play n l ph version (retry number) = again n number ph
+play n l ph version judge = judged l version
+
+-- what an event makes of a phase
+unfoldable pub turn : ℕ → Limits → Phase → PartnerEvent → Turn
+turn n l ph e = play n l ph (versionOf e) (cell ph e)
+
+-- the event is taken: "\"no\" is refusal 7"
+abbrev pub takes : Turn → Bool
+takes Refused = false
+takes Released = true
+takes (Becomes ph) = true
+takes (Sends number ph) = true
+takes (SendsBoth first second ph) = true
+
+-- the numbers of a turn's actions, in their order
+abbrev pub numbers : Turn → List ℕ
+numbers Refused = []
+numbers Released = release ∷ []
+numbers (Becomes ph) = []
+numbers (Sends number ph) = number ∷ []
+numbers (SendsBoth first second ph) = first ∷ second ∷ []
+
+-- the place after a turn: "Direction never changes while the place is held"
+abbrev pub heldAfter : Holding → Phase → Place
+heldAfter Free next = vacant
+heldAfter (Held d ph p) next = seat d next p
+
+abbrev pub placeAfter : Place → Turn → Place
+placeAfter place Refused = place
+placeAfter place Released = vacant
+placeAfter place (Becomes next) = heldAfter (place .holding) next
+placeAfter place (Sends number next) = heldAfter (place .holding) next
+placeAfter place (SendsBoth first second next) = heldAfter (place .holding) next
+
+abbrev pub holdingTurn : ℕ → Limits → Holding → PartnerEvent → Turn
+holdingTurn n l Free e = Refused
+holdingTurn n l (Held d ph p) e = turn n l ph e
+
+-- what an event that names the partner of a place makes of it
+abbrev pub placeTurn : ℕ → Limits → Place → PartnerEvent → Turn
+placeTurn n l place e = holdingTurn n l (place .holding) e
+
+-- a session: Open or Lost
+abbrev pub inSession : Phase → Bool
+inSession (Connecting t) = false
+inSession (Contacting t) = false
+inSession Open = true
+inSession (Lost t) = true
+inSession (Ending t) = false
+
+-- "closes every place, lowest first, that is not Ending"; "each RBC place in Open or Lost is closed"
+abbrev pub notEnding : Phase → Bool
+notEnding (Connecting t) = true
+notEnding (Contacting t) = true
+notEnding Open = true
+notEnding (Lost t) = true
+notEnding (Ending t) = false
+
+abbrev pub due : Due → Phase → Partner → Bool
+due Every ph p = notEnding ph
+due Sessions ph p = isRbc p && inSession ph
+due Nothing ph p = false
+
+-- what a closing makes of a place
+abbrev pub shutHolding : Due → Holding → Turn
+shutHolding which Free = Refused
+shutHolding which (Held d ph p) = cond (due which ph p) (closing ph) Refused
+
+abbrev pub shutTurn : Due → Place → Turn
+shutTurn which place = shutHolding which (place .holding)

@@ -1,0 +1,58 @@
+-- Document 01, "Numbers of refusal": each number with its one name.
+use Prim.Native.Nat.{ℕ}
+
+-- what an answer carries where nothing was refused
+abbrev pub accepted : ℕ
+accepted = 0
+
+-- "record or image empty, or not of its kind's length"
+abbrev pub wrongLength : ℕ
+wrongLength = 1
+
+-- "kind unknown"
+abbrev pub unknownKind : ℕ
+unknownKind = 2
+
+-- "a record's field outside its range"
+abbrev pub outOfRange : ℕ
+outOfRange = 3
+
+-- "the order's cause is not in force"
+abbrev pub notInForce : ℕ
+notInForce = 4
+
+-- "the partner of an order or 38 has a place"
+abbrev pub hasPlace : ℕ
+hasPlace = 5
+
+-- "the partner of another event has none"
+abbrev pub hasNone : ℕ
+hasNone = 6
+
+-- "the phase, or the hole mark, does not take this event"
+abbrev pub notTaken : ℕ
+notTaken = 7
+
+-- "order or 38 with all places taken"
+abbrev pub allTaken : ℕ
+allTaken = 8
+
+-- "38 from an RIU"
+abbrev pub callFromRiu : ℕ
+callFromRiu = 9
+
+-- "action buffer under 20 bytes, image buffer under 37"
+abbrev pub noRoom : ℕ
+noRoom = 10
+
+-- "state not sound, or image content not sound"
+abbrev pub notSound : ℕ
+notSound = 11
+
+-- "log longer than 1,048,576 bytes"
+abbrev pub logTooLong : ℕ
+logTooLong = 12
+
+-- "cold start with an X over 7 or lowest over highest"
+abbrev pub badLimits : ℕ
+badLimits = 13

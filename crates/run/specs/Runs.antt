@@ -1,0 +1,114 @@
+-- Document 01, "Run over a log".
+-- Defines: the stops; takeOne; steps, the list of the steps taken; count, Tally's changes; go, run.
+use Prim.Native.Nat.{ℕ, zero, suc, _+_}
+use mathlib.Core.Bool.{Bool, cond}
+use mathlib.Core.List.{List, [], _∷_}
+use lib.Dec.{eqb, leb}
+use lib.ListN.{length, take, drop}
+use Rattle.record.specs.Records.{known, lengthOf}
+use Rattle.record.specs.Refusals.{accepted, notSound, logTooLong}
+use Rattle.place.specs.Table.{request, release, incompatible, initiate, terminate, established}
+use Rattle.unit.specs.States.{sound}
+use Rattle.unit.specs.Steps.{Outcome}
+use Rattle.unit.specs.OnRecords.{actionRoom, onRecord}
+use Rattle.unit.specs.declared.state.State.{State}
+use Rattle.unit.specs.declared.answer.Action.{Action}
+use Rattle.run.specs.declared.Totals.{Totals}
+use Rattle.run.specs.declared.Tally.{Tally}
+use Rattle.run.specs.declared.Report.{Report}
+use Rattle.run.specs.declared.Taken.{Taken}
+use Rattle.run.specs.declared.Taken.the-variants.{Whole, Stopped}
+
+-- "nothing left, stop 0; budget used up, stop 1; kind unknown, stop 3; fewer bytes than the kind's length, stop 2"
+abbrev pub nothingLeft : ℕ
+nothingLeft = 0
+
+abbrev pub budgetUsed : ℕ
+budgetUsed = 1
+
+abbrev pub recordShort : ℕ
+recordShort = 2
+
+abbrev pub kindUnknown : ℕ
+kindUnknown = 3
+
+-- "log longer than 1,048,576 bytes"
+abbrev pub longestLog : ℕ
+longestLog = 1_048_576
+
+-- what stands at the front of a log, the budget left aside
+unfoldable pub takeOne : List ℕ → Taken
+takeOne [] = Stopped nothingLeft
+takeOne (kind ∷ rest) =
+    cond (known kind)
+    (cond (leb (lengthOf kind) (length (kind ∷ rest))) (Whole (lengthOf kind)) (Stopped recordShort))
+    (Stopped kindUnknown)
+
+-- the stop, or a record and what follows it
+abbrev pub onTaken : {A : Type 0} → Taken → (ℕ → A) → (ℕ → A) → A
+onTaken (Whole k) stopped whole = whole k
+onTaken (Stopped stop) stopped whole = stopped stop
+
+-- the steps of a run: each record's, given 20 bytes for its actions, as far as the budget and the log reach
+unfoldable pub steps : ℕ → ℕ → State → List ℕ → List Outcome
+steps n zero s log = []
+steps n (suc budget) s log =
+    onTaken (takeOne log) (λ stop. [])
+    (λ k. let o : Outcome = onRecord n s (take k log) actionRoom in o ∷ steps n budget (o .state) (drop k log))
+
+-- how many of the actions have this number
+unfoldable pub count : ℕ → List Action → ℕ
+count number [] = 0
+count number (a ∷ acts) = cond (eqb (a .number) number) (suc (count number acts)) (count number acts)
+
+abbrev pub noTotals : Totals
+noTotals = record { request = 0; release = 0; incompatible = 0; initiate = 0; terminate = 0; established = 0 }
+
+-- the totals with a step's actions counted
+unfoldable pub totalled : Totals → List Action → Totals
+totalled t acts =
+    record {
+      request = t .request + count request acts;
+      release = t .release + count release acts;
+      incompatible = t .incompatible + count incompatible acts;
+      initiate = t .initiate + count initiate acts;
+      terminate = t .terminate + count terminate acts;
+      established = t .established + count established acts;
+    }
+
+-- a run before its first record
+abbrev pub fresh : State → Tally
+fresh s = record { state = s; offset = 0; read = 0; refused = 0; totals = noTotals }
+
+-- "A record refused with 3 to 9 is counted, changes nothing, and the run goes on": as read, and as refused
+unfoldable pub counted : Tally → ℕ → Outcome → Tally
+counted t k o =
+    record {
+      state = o .state;
+      offset = t .offset + k;
+      read = t .read + 1;
+      refused = t .refused + cond (eqb (o .code) accepted) 0 1;
+      totals = totalled (t .totals) (o .actions);
+    }
+
+-- a run that stopped
+abbrev pub ended : Tally → ℕ → Report
+ended t stop = record { code = accepted; stop = stop; tally = t }
+
+-- "Before each record, in order": the rest of a run, with what is left of the budget and of the log
+unfoldable pub go : ℕ → ℕ → Tally → List ℕ → Report
+go n zero t [] = ended t nothingLeft
+go n zero t (kind ∷ rest) = ended t budgetUsed
+go n (suc budget) t log =
+    onTaken (takeOne log) (λ stop. ended t stop)
+    (λ k. go n budget (counted t k (onRecord n (t .state) (take k log) actionRoom)) (drop k log))
+
+-- "A refused .. run .. returns its number, the state as given, counts 0 (a run's stop and offset too)"
+abbrev pub runRefused : ℕ → State → Report
+runRefused r s = record { code = r; stop = 0; tally = fresh s }
+
+-- "Run: 12, 11"
+unfoldable pub run : ℕ → State → List ℕ → ℕ → Report
+run n s log budget =
+    cond (leb (length log) longestLog) (cond (sound n s) (go n budget (fresh s) log) (runRefused notSound s))
+    (runRefused logTooLong s)

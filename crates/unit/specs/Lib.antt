@@ -1,0 +1,4 @@
+pub mod States
+pub mod Steps
+pub mod OnRecords
+pub mod Examples

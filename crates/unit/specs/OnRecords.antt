@@ -1,0 +1,70 @@
+-- Document 01, "Rules of one step" on bytes: the step on a record, and the bytes of its actions.
+-- Defines: actionRoom, actionSize; onReading, onRecord, trace; actionBytes, written; listed, packed.
+use Prim.Native.Nat.{ℕ, _*_}
+use mathlib.Core.Bool.{Bool, cond}
+use mathlib.Core.List.{List, [], _∷_, _++_}
+use lib.Dec.{leb}
+use lib.ListN.{length, take, drop, replicate}
+use Rattle.record.specs.Records.{reading}
+use Rattle.record.specs.Refusals.{noRoom, notSound}
+use Rattle.record.specs.declared.event.Reading.{Reading}
+use Rattle.record.specs.declared.event.Reading.the-variants.{Meant, Refused}
+use Rattle.unit.specs.States.{sound}
+use Rattle.unit.specs.Steps.{Outcome, refused, step}
+use Rattle.unit.specs.declared.state.State.{State}
+use Rattle.unit.specs.declared.answer.Action.{Action}
+use Rattle.unit.specs.declared.answer.Actions.{Actions}
+use Rattle.unit.specs.declared.answer.Answer.{Answer}
+
+-- "action buffer under 20 bytes"
+abbrev pub actionRoom : ℕ
+actionRoom = 20
+
+-- "Actions are five bytes: number, partner"
+abbrev pub actionSize : ℕ
+actionSize = 5
+
+-- a record that is refused changes nothing; one that means an event is stepped
+abbrev pub onReading : ℕ → State → Reading → Outcome
+onReading n s (Meant e) = step n s e
+onReading n s (Refused r) = refused r s
+
+-- "Step: 10, 11, then 1 (empty), 2, 1 (length), 3; then ..": room is the length of the action buffer
+unfoldable pub onRecord : ℕ → State → List ℕ → ℕ → Outcome
+onRecord n s bytes room =
+    cond (leb actionRoom room) (cond (sound n s) (onReading n s (reading bytes)) (refused notSound s)) (refused noRoom s)
+
+-- the outcomes of a history, "a row of event records, each given 20 bytes for its actions"
+unfoldable pub trace : ℕ → State → List (List ℕ) → List Outcome
+trace n s [] = []
+trace n s (bytes ∷ history) =
+    let o : Outcome = onRecord n s bytes actionRoom in
+    o ∷ trace n (o .state) history
+
+-- the five bytes of an action
+abbrev pub bytesOf : Action → List ℕ
+bytesOf a = a .number ∷ a .partner .kind ∷ a .partner .high ∷ a .partner .middle ∷ a .partner .low ∷ []
+
+unfoldable pub actionBytes : List Action → List ℕ
+actionBytes [] = []
+actionBytes (a ∷ acts) = bytesOf a ++ actionBytes acts
+
+-- "An accepted call writes only its actions ..; later bytes stay"
+unfoldable pub written : List Action → List ℕ → List ℕ
+written acts buffer = actionBytes acts ++ drop (actionSize * length acts) buffer
+
+-- no action: what stands in the code's array after the last one
+abbrev pub noAction : Action
+noAction = record { number = 0; partner = record { kind = 0; high = 0; middle = 0; low = 0 } }
+
+-- the most actions of one step
+abbrev pub mostActions : ℕ
+mostActions = 4
+
+-- the actions as the code holds them
+unfoldable pub listed : List Action → Actions
+listed acts = record { items = take mostActions (acts ++ replicate mostActions noAction); count = length acts }
+
+-- the outcome as the code holds it
+unfoldable pub packed : Outcome → Answer
+packed o = record { code = o .code; state = o .state; actions = listed (o .actions) }

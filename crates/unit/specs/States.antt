@@ -1,0 +1,91 @@
+-- Document 01, "What the box remembers": soundness of a state, and the cold start.
+-- Defines: placeCount; first, seek; limitsOk, trainOk, marksOk, absent, placesOk, sound; cold, coldStart.
+use Prim.Native.Nat.{ℕ, suc, _+_}
+use mathlib.Core.Bool.{Bool, true, false, cond, _&&_, not}
+use mathlib.Core.List.{List, [], _∷_}
+use lib.Dec.{eqb, leb, ltb}
+use lib.ListN.{length, replicate}
+use Rattle.record.specs.Records.{highestLevel, missionEnded, missionUnderWay}
+use Rattle.record.specs.Refusals.{accepted, badLimits}
+use Rattle.record.specs.declared.partner.Partner.{Partner}
+use Rattle.place.specs.Places.{vacant, isFree, holds, placeOk}
+use Rattle.place.specs.declared.seat.Holding.{Holding}
+use Rattle.place.specs.declared.seat.Holding.the-variants.{Free, Held}
+use Rattle.place.specs.declared.seat.Place.{Place}
+use Rattle.place.specs.declared.turn.Limits.{Limits}
+use Rattle.unit.specs.declared.state.Train.{Train}
+use Rattle.unit.specs.declared.state.Marks.{Marks}
+use Rattle.unit.specs.declared.state.State.{State}
+use Rattle.unit.specs.declared.state.Found.{Found}
+use Rattle.unit.specs.declared.state.Found.the-variants.{At, Vacant, Full}
+use Rattle.unit.specs.declared.answer.Started.{Started}
+
+-- "Four places, 0 to 3"
+abbrev pub placeCount : ℕ
+placeCount = 4
+
+-- the number of the lowest place that passes a test; the number of places where none does
+unfoldable pub first : (Place → Bool) → List Place → ℕ
+first test [] = 0
+first test (p ∷ ps) = cond (test p) 0 (suc (first test ps))
+
+-- where a partner has its place, else the lowest free place, else none
+unfoldable pub seek : Partner → List Place → Found
+seek p ps =
+    cond (ltb (first (holds p) ps) (length ps)) (At (first (holds p) ps))
+    (cond (ltb (first isFree ps) (length ps)) (Vacant (first isFree ps)) Full)
+
+-- the largest X, 7
+abbrev pub highestX : ℕ
+highestX = 7
+
+-- "Lowest and highest supported version X, 0 to 7, lowest ≤ highest"
+abbrev pub limitsOk : Limits → Bool
+limitsOk l = leb (l .lowest) (l .highest) && leb (l .highest) highestX
+
+-- "Level 0 to 4 (4 is NTC). Mission: 0 ended, 1 starting, 2 under way"
+abbrev pub trainOk : Train → Bool
+trainOk t = leb (t .level) highestLevel && leb (t .mission) missionUnderWay
+
+-- "'inside a hole' and 'hole end' are not both 1"
+abbrev pub marksOk : Marks → Bool
+marksOk m = not (m .inside && m .end)
+
+-- the partner has none of these places
+abbrev pub absentFrom : List Place → Holding → Bool
+absentFrom ps Free = true
+absentFrom ps (Held d ph p) = leb (length ps) (first (holds p) ps)
+
+-- each place is sound by itself, and "no partner has two places"
+unfoldable pub placesOk : ℕ → List Place → Bool
+placesOk n [] = true
+placesOk n (p ∷ ps) = placeOk n p && (absentFrom ps (p .holding) && placesOk n ps)
+
+-- "A state is sound when all these ranges hold", n being the limit of tries
+unfoldable pub sound : ℕ → State → Bool
+sound n s =
+    limitsOk (s .limits)
+    && (trainOk (s .train) && (marksOk (s .marks) && (eqb (length (s .places)) placeCount && placesOk n (s .places))))
+
+-- no mark set
+abbrev pub noMarks : Marks
+noMarks = record { inside = false; mode = false; manual = false; end = false }
+
+-- "mission ended, level 0, marks 0, places free"
+unfoldable pub cold : Limits → State
+cold l =
+    record {
+      limits = l;
+      train = record { level = 0; mission = missionEnded };
+      marks = noMarks;
+      places = replicate placeCount vacant;
+    }
+
+-- the limits of a refused cold start or image read: "X from 0 to 0"
+abbrev pub noLimits : Limits
+noLimits = record { lowest = 0; highest = 0 }
+
+-- "Cold start takes the two X numbers"; 13 for "an X over 7 or lowest over highest"
+unfoldable pub coldStart : Limits → Started
+coldStart l =
+    cond (limitsOk l) (record { code = accepted; state = cold l }) (record { code = badLimits; state = cold noLimits })

@@ -1,0 +1,190 @@
+-- Document 01, "Rules of one step": one step on values, for every kind of event.
+-- Defines: Outcome, refused, done; withTrain, withMarks, withPlaces; levelled, holed, shut, shutting, sweep, missioned;
+-- inForce, spend, displaced, ordered; called; turned, namedAt; step.
+use Prim.Native.Nat.{ℕ}
+use mathlib.Core.Bool.{Bool, true, false, cond, _&&_, _||_, not}
+use mathlib.Core.List.{List, [], _∷_, _++_, map}
+use lib.Dec.{eqb}
+use lib.ListN.{getD, set}
+use Rattle.record.specs.Partners.{isRbc}
+use Rattle.record.specs.Records.{missionEnded, missionStarting}
+use Rattle.record.specs.Refusals as refusal
+use Rattle.record.specs.declared.partner.Partner.{Partner}
+use Rattle.record.specs.declared.event.Cause.{Cause}
+use Rattle.record.specs.declared.event.Cause.the-variants.{StartOfMission, Trackside, ModeChange, ManualLevel, HoleEnd}
+use Rattle.record.specs.declared.event.PartnerEvent.{PartnerEvent}
+use Rattle.record.specs.declared.event.Event.{Event}
+use Rattle.record.specs.declared.event.Event.the-variants.{Level, Mission, Mode, Hole, Order, EndAll, Call, Named}
+use Rattle.place.specs.Places.{vacant, seat}
+use Rattle.place.specs.Table.{request, established, firstTry, takes, numbers, placeAfter, placeTurn, shutTurn}
+use Rattle.place.specs.declared.phase.Phase.the-variants.{Connecting, Open}
+use Rattle.place.specs.declared.seat.Direction.the-variants.{Outgoing, Incoming}
+use Rattle.place.specs.declared.seat.Holding.{Holding}
+use Rattle.place.specs.declared.seat.Holding.the-variants.{Free, Held}
+use Rattle.place.specs.declared.seat.Place.{Place}
+use Rattle.place.specs.declared.turn.Turn.{Turn}
+use Rattle.place.specs.declared.turn.Due.{Due}
+use Rattle.place.specs.declared.turn.Due.the-variants.{Every, Sessions, Nothing}
+use Rattle.unit.specs.States.{seek}
+use Rattle.unit.specs.declared.state.Train.{Train}
+use Rattle.unit.specs.declared.state.Marks.{Marks}
+use Rattle.unit.specs.declared.state.State.{State}
+use Rattle.unit.specs.declared.state.Found.{Found}
+use Rattle.unit.specs.declared.state.Found.the-variants.{At, Vacant, Full}
+use Rattle.unit.specs.declared.answer.Action.{Action}
+
+-- what a step gives: 0 or the refusal, the next state, and the actions in their order
+pub record Outcome : Type 0 where
+  pub code : ℕ
+  pub state : State
+  pub actions : List Action
+
+-- "A refused step .. returns its number, the state as given, counts 0"
+abbrev pub refused : ℕ → State → Outcome
+refused r s = record { code = r; state = s; actions = [] }
+
+-- an accepted step
+abbrev pub done : State → List Action → Outcome
+done s acts = record { code = refusal.accepted; state = s; actions = acts }
+
+-- the state with one part of it changed
+abbrev pub withTrain : State → Train → State
+withTrain s t = record { limits = s .limits; train = t; marks = s .marks; places = s .places }
+
+abbrev pub withMarks : State → Marks → State
+withMarks s m = record { limits = s .limits; train = s .train; marks = m; places = s .places }
+
+abbrev pub withPlaces : State → List Place → State
+withPlaces s ps = record { limits = s .limits; train = s .train; marks = s .marks; places = ps }
+
+-- an action for a partner
+abbrev pub act : Partner → ℕ → Action
+act p number = record { number = number; partner = p }
+
+-- "Level: stored; manual 1 sets its mark, manual 0 leaves it"
+abbrev pub markManual : Marks → Bool → Marks
+markManual m manual = record { inside = m .inside; mode = m .mode; manual = m .manual || manual; end = m .end }
+
+abbrev pub levelled : State → ℕ → Bool → State
+levelled s level manual =
+    withMarks (withTrain s (record { level = level; mission = s .train .mission })) (markManual (s .marks) manual)
+
+-- "Mode change: sets its mark"
+abbrev pub markMode : Marks → Marks
+markMode m = record { inside = m .inside; mode = true; manual = m .manual; end = m .end }
+
+-- "Hole entered: .. sets inside, clears hole end. Hole left: .. clears inside, sets hole end"
+abbrev pub markHole : Marks → Bool → Marks
+markHole m entered = record { inside = entered; mode = m .mode; manual = m .manual; end = not entered }
+
+-- "Hole entered: taken only outside a hole", "Hole left: taken only inside"
+abbrev pub holeTaken : Marks → Bool → Bool
+holeTaken m true = not (m .inside)
+holeTaken m false = m .inside
+
+abbrev pub holed : State → Bool → Outcome
+holed s entered = cond (holeTaken (s .marks) entered) (done (withMarks s (markHole (s .marks) entered)) []) (refused refusal.notTaken s)
+
+-- the actions of a place's turn, for the partner that it holds
+abbrev pub actionsIn : Holding → Turn → List Action
+actionsIn Free t = []
+actionsIn (Held d ph p) t = map (act p) (numbers t)
+
+-- the places after a closing of those that are due, and its actions, "lowest first"
+unfoldable pub shut : Due → List Place → List Place
+shut which [] = []
+shut which (p ∷ ps) = placeAfter p (shutTurn which p) ∷ shut which ps
+
+unfoldable pub shutting : Due → List Place → List Action
+shutting which [] = []
+shutting which (p ∷ ps) = actionsIn (p .holding) (shutTurn which p) ++ shutting which ps
+
+-- "End all: closes every place, lowest first, that is not Ending; with no such place it is accepted and does no more"
+abbrev pub sweep : Due → State → Outcome
+sweep which s = done (withPlaces s (shut which (s .places))) (shutting which (s .places))
+
+-- "Mission: stored; 0 also ends all"
+abbrev pub withMission : State → ℕ → State
+withMission s mission = withTrain s (record { level = s .train .level; mission = mission })
+
+abbrev pub missioned : State → ℕ → Outcome
+missioned s mission =
+    cond (eqb mission missionEnded) (sweep Every (withMission s mission)) (done (withMission s mission) [])
+
+-- "level 2 or 3"
+abbrev pub radioLevel : Train → Bool
+radioLevel t = eqb (t .level) 2 || eqb (t .level) 3
+
+-- "Its cause must be in force"
+abbrev pub inForce : Cause → Train → Marks → Bool
+inForce StartOfMission t m = eqb (t .mission) missionStarting && radioLevel t
+inForce Trackside t m = true
+inForce ModeChange t m = not (eqb (t .mission) missionEnded) && (radioLevel t && m .mode)
+inForce ManualLevel t m = radioLevel t && m .manual
+inForce HoleEnd t m = m .end
+
+-- "Acceptance clears the mark used by causes 2, 3, 4, and no other"
+abbrev pub spend : Cause → Marks → Marks
+spend StartOfMission m = m
+spend Trackside m = m
+spend ModeChange m = record { inside = m .inside; mode = false; manual = m .manual; end = m .end }
+spend ManualLevel m = record { inside = m .inside; mode = m .mode; manual = false; end = m .end }
+spend HoleEnd m = record { inside = m .inside; mode = m .mode; manual = m .manual; end = false }
+
+-- "If the partner is an RBC and accepting is 0, each RBC place in Open or Lost is closed"
+abbrev pub displaced : Partner → Bool → Due
+displaced p accepting = cond (isRbc p && not accepting) Sessions Nothing
+
+-- "Then the partner takes the lowest-numbered free place as Connecting, outgoing, tries 1, with action 21 last"
+abbrev pub takenIn : Outcome → ℕ → Partner → Outcome
+takenIn o i p =
+    done (withPlaces (o .state) (set (o .state .places) i (seat Outgoing (Connecting firstTry) p)))
+    (o .actions ++ (act p request ∷ []))
+
+-- "A place freed by this same order is not counted as free for it": the place was found before the closings
+abbrev pub orderedAt : State → Partner → Bool → Cause → Found → Outcome
+orderedAt s p accepting cause (At i) = refused refusal.hasPlace s
+orderedAt s p accepting cause (Vacant i) =
+    takenIn (sweep (displaced p accepting) (withMarks s (spend cause (s .marks)))) i p
+orderedAt s p accepting cause Full = refused refusal.allTaken s
+
+-- "for an order 4, 5, 8"
+abbrev pub ordered : State → Partner → Bool → Cause → Outcome
+ordered s p accepting cause =
+    cond (inForce cause (s .train) (s .marks)) (orderedAt s p accepting cause (seek p (s .places)))
+    (refused refusal.notInForce s)
+
+-- "Message 38 takes the lowest free place as Open, incoming, with 159"
+abbrev pub calledAt : State → Partner → Found → Outcome
+calledAt s p (At i) = refused refusal.hasPlace s
+calledAt s p (Vacant i) =
+    done (withPlaces s (set (s .places) i (seat Incoming Open p))) (act p established ∷ [])
+calledAt s p Full = refused refusal.allTaken s
+
+-- "for 38 9, 5, 8"
+abbrev pub called : State → Partner → Outcome
+called s p = cond (isRbc p) (calledAt s p (seek p (s .places))) (refused refusal.callFromRiu s)
+
+-- a turn of the place with this number, for the partner that it holds
+abbrev pub turned : State → ℕ → Partner → Turn → Outcome
+turned s i p t =
+    cond (takes t)
+    (done (withPlaces s (set (s .places) i (placeAfter (getD (s .places) i vacant) t))) (map (act p) (numbers t)))
+    (refused refusal.notTaken s)
+
+-- "for other partner events 6, 7"
+abbrev pub namedAt : ℕ → State → Partner → PartnerEvent → Found → Outcome
+namedAt n s p e (At i) = turned s i p (placeTurn n (s .limits) (getD (s .places) i vacant) e)
+namedAt n s p e (Vacant i) = refused refusal.hasNone s
+namedAt n s p e Full = refused refusal.hasNone s
+
+-- one step, n being the limit of tries
+unfoldable pub step : ℕ → State → Event → Outcome
+step n s (Level level manual) = done (levelled s level manual) []
+step n s (Mission mission) = missioned s mission
+step n s Mode = done (withMarks s (markMode (s .marks))) []
+step n s (Hole entered) = holed s entered
+step n s (Order p accepting cause) = ordered s p accepting cause
+step n s EndAll = sweep Every s
+step n s (Call p) = called s p
+step n s (Named p e) = namedAt n s p e (seek p (s .places))
