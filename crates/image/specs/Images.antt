@@ -4,10 +4,9 @@ use Prim.Native.Nat.{ℕ, zero, suc}
 use mathlib.Core.Bool.{Bool, true, false, cond, _&&_}
 use mathlib.Core.List.{List, [], _∷_, _++_}
 use lib.Dec.{eqb, leb}
-use lib.ListN.{length, getD, take, drop, replicate}
+use lib.ListN.{length, take, drop, replicate}
 use Rattle.record.specs.Records.{byte, flag}
 use Rattle.record.specs.Refusals.{accepted, wrongLength, unknownKind, noRoom, notSound}
-use Rattle.record.specs.declared.partner.Partner.{Partner}
 use Rattle.place.specs.Places.{phaseNumber, tries, directionNumber, vacant, seat}
 use Rattle.place.specs.declared.phase.Phase.{Phase}
 use Rattle.place.specs.declared.phase.Phase.the-variants.{Connecting, Contacting, Open, Lost, Ending}
@@ -16,10 +15,7 @@ use Rattle.place.specs.declared.seat.Direction.the-variants.{Outgoing, Incoming
 use Rattle.place.specs.declared.seat.Holding.{Holding}
 use Rattle.place.specs.declared.seat.Holding.the-variants.{Free, Held}
 use Rattle.place.specs.declared.seat.Place.{Place}
-use Rattle.place.specs.declared.turn.Limits.{Limits}
 use Rattle.unit.specs.States.{cold, noLimits, placeCount, sound}
-use Rattle.unit.specs.declared.state.Train.{Train}
-use Rattle.unit.specs.declared.state.Marks.{Marks}
 use Rattle.unit.specs.declared.state.State.{State}
 use Rattle.unit.specs.declared.answer.Started.{Started}
 use Rattle.image.specs.declared.Stored.{Stored}

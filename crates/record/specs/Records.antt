@@ -1,7 +1,7 @@
 -- Document 01, "Event records": the table of kinds, and reading one record.
--- Defines: kinds (level .. message) and lengths; byte, flag, partnerAt, causes; a body for each kind; bodies; reading.
-use Prim.Native.Nat.{ℕ, _+_}
-use mathlib.Core.Bool.{Bool, true, false, cond, _&&_}
+-- Defines: lengths, known; byte, bit, flag, partnerIn, causes; a Body for each kind; bodies, fields; reading, readingNumber; eventOk.
+use Prim.Native.Nat.{ℕ}
+use mathlib.Core.Bool.{Bool, true, false, cond, _&&_, _||_}
 use mathlib.Core.List.{List, [], _∷_}
 use lib.Dec.{eqb, leb, ltb}
 use lib.ListN.{length, getD}
@@ -88,60 +88,73 @@ causes = StartOfMission ∷ Trackside ∷ ModeChange ∷ ManualLevel ∷ HoleEnd
 abbrev pub causeOf : ℕ → Cause
 causeOf b = getD causes b StartOfMission
 
--- an event whose fields are in their ranges is meant; else refusal 3
-abbrev pub within : Bool → Event → Reading
-within true e = Meant e
-within false e = Refused outOfRange
+-- a row of the table of kinds: the ranges of its fields, and the event that they mean
+pub record Body : Type 0 where
+  pub ranges : List ℕ → Bool
+  pub means : List ℕ → Event
 
 -- kind 1: level, manual 0/1
-abbrev pub levelBody : List ℕ → Reading
-levelBody s = within (leb (byte s 1) highestLevel && bit (byte s 2)) (Level (byte s 1) (flag (byte s 2)))
+abbrev pub levelBody : Body
+levelBody =
+    record {
+      ranges = λ s. leb (byte s 1) highestLevel && bit (byte s 2);
+      means = λ s. Level (byte s 1) (flag (byte s 2));
+    }
 
 -- kind 2: 0..2
-abbrev pub missionBody : List ℕ → Reading
-missionBody s = within (leb (byte s 1) missionUnderWay) (Mission (byte s 1))
+abbrev pub missionBody : Body
+missionBody = record { ranges = λ s. leb (byte s 1) missionUnderWay; means = λ s. Mission (byte s 1) }
 
 -- kind 3: none
-abbrev pub modeBody : List ℕ → Reading
-modeBody s = Meant Mode
+abbrev pub modeBody : Body
+modeBody = record { ranges = λ s. true; means = λ s. Mode }
 
 -- kind 4: 1 entered, 0 left
-abbrev pub holeBody : List ℕ → Reading
-holeBody s = within (bit (byte s 1)) (Hole (flag (byte s 1)))
+abbrev pub holeBody : Body
+holeBody = record { ranges = λ s. bit (byte s 1); means = λ s. Hole (flag (byte s 1)) }
 
 -- kind 5: partner, accepting 0/1, cause 0..4
-abbrev pub orderBody : List ℕ → Reading
-orderBody s =
-    within (partnerOk (partnerIn s) && (bit (byte s 5) && ltb (byte s 6) (length causes)))
-    (Order (partnerIn s) (flag (byte s 5)) (causeOf (byte s 6)))
-
--- kind 7: 0 desk closed, 1 error
-abbrev pub endAllBody : List ℕ → Reading
-endAllBody s = within (bit (byte s 1)) EndAll
+abbrev pub orderBody : Body
+orderBody =
+    record {
+      ranges = λ s. partnerOk (partnerIn s) && (bit (byte s 5) && ltb (byte s 6) (length causes));
+      means = λ s. Order (partnerIn s) (flag (byte s 5)) (causeOf (byte s 6));
+    }
 
 -- kinds 6, 8, 9, 10: partner
-abbrev pub partnerBody : PartnerEvent → List ℕ → Reading
-partnerBody e s = within (partnerOk (partnerIn s)) (Named (partnerIn s) e)
+abbrev pub partnerBody : PartnerEvent → Body
+partnerBody e = record { ranges = λ s. partnerOk (partnerIn s); means = λ s. Named (partnerIn s) e }
 
--- a message's number and its version: "Version is 0..127 for message 32 (16·X + Y) and must be 0 for 38 and 39"
-abbrev pub messageOf : ℕ → ℕ → Partner → Reading
-messageOf number version p =
-    cond (eqb number messageVersion) (within (leb version highestVersion) (Named p (Version version)))
-    (cond (eqb number messageCall) (within (eqb version 0) (Call p))
-    (within (eqb number messageEnded && eqb version 0) (Named p Ended)))
+-- kind 7: 0 desk closed, 1 error
+abbrev pub endAllBody : Body
+endAllBody = record { ranges = λ s. bit (byte s 1); means = λ s. EndAll }
+
+-- "number 32, 38 or 39"; "Version is 0..127 for message 32 (16·X + Y) and must be 0 for 38 and 39"
+abbrev pub messageOk : ℕ → ℕ → Bool
+messageOk number version =
+    cond (eqb number messageVersion) (leb version highestVersion)
+    ((eqb number messageCall || eqb number messageEnded) && eqb version 0)
+
+abbrev pub messageMeans : ℕ → ℕ → Partner → Event
+messageMeans number version p =
+    cond (eqb number messageVersion) (Named p (Version version)) (cond (eqb number messageCall) (Call p) (Named p Ended))
 
 -- kind 11: partner, number 32, 38 or 39, version
-abbrev pub messageBody : List ℕ → Reading
-messageBody s = cond (partnerOk (partnerIn s)) (messageOf (byte s 5) (byte s 6) (partnerIn s)) (Refused outOfRange)
+abbrev pub messageBody : Body
+messageBody =
+    record {
+      ranges = λ s. partnerOk (partnerIn s) && messageOk (byte s 5) (byte s 6);
+      means = λ s. messageMeans (byte s 5) (byte s 6) (partnerIn s);
+    }
 
--- no kind has this number
-abbrev pub unknownBody : List ℕ → Reading
-unknownBody s = Refused unknownKind
+-- what no kind has
+abbrev pub noBody : Body
+noBody = record { ranges = λ s. false; means = λ s. Mode }
 
--- the table of 01: what the fields of each kind mean
-abbrev pub bodies : List (List ℕ → Reading)
+-- the table of 01, by kind
+abbrev pub bodies : List Body
 bodies =
-    unknownBody
+    noBody
     ∷ levelBody
     ∷ missionBody
     ∷ modeBody
@@ -155,18 +168,41 @@ bodies =
     ∷ messageBody
     ∷ []
 
-abbrev pub bodyOf : ℕ → List ℕ → Reading
-bodyOf kind = getD bodies kind unknownBody
+abbrev pub bodyOf : ℕ → Body
+bodyOf kind = getD bodies kind noBody
+
+-- the fields of a record: its event where each is in its range, else refusal 3
+abbrev pub fields : Body → List ℕ → Reading
+fields body s = cond (body .ranges s) (Meant (body .means s)) (Refused outOfRange)
 
 -- "1 (empty), 2, 1 (length), 3": the first refusal that applies, or the event
 unfoldable pub reading : List ℕ → Reading
 reading [] = Refused wrongLength
 reading (kind ∷ body) =
     cond (known kind)
-    (cond (eqb (length (kind ∷ body)) (lengthOf kind)) (bodyOf kind (kind ∷ body)) (Refused wrongLength))
+    (cond (eqb (length (kind ∷ body)) (lengthOf kind)) (fields (bodyOf kind) (kind ∷ body)) (Refused wrongLength))
     (Refused unknownKind)
 
 -- 01's number for a reading: 0 for an event that is meant, else the refusal
 abbrev pub readingNumber : Reading → ℕ
 readingNumber (Meant e) = accepted
 readingNumber (Refused r) = r
+
+-- the ranges of an event's fields that its type leaves open
+abbrev pub partnerEventOk : PartnerEvent → Bool
+partnerEventOk Drop = true
+partnerEventOk Up = true
+partnerEventOk Loss = true
+partnerEventOk Timeout = true
+partnerEventOk (Version v) = leb v highestVersion
+partnerEventOk Ended = true
+
+abbrev pub eventOk : Event → Bool
+eventOk (Level level manual) = leb level highestLevel
+eventOk (Mission mission) = leb mission missionUnderWay
+eventOk Mode = true
+eventOk (Hole entered) = true
+eventOk (Order p accepting cause) = partnerOk p
+eventOk EndAll = true
+eventOk (Call p) = partnerOk p
+eventOk (Named p e) = partnerOk p && partnerEventOk e

@@ -1,7 +1,7 @@
 -- Document 01, "Run over a log".
 -- Defines: the stops; takeOne; steps, the list of the steps taken; count, Tally's changes; go, run.
 use Prim.Native.Nat.{ℕ, zero, suc, _+_}
-use mathlib.Core.Bool.{Bool, cond}
+use mathlib.Core.Bool.{cond}
 use mathlib.Core.List.{List, [], _∷_}
 use lib.Dec.{eqb, leb}
 use lib.ListN.{length, take, drop}

@@ -1,7 +1,7 @@
 -- Document 01, "Rules of one step" on bytes: the step on a record, and the bytes of its actions.
 -- Defines: actionRoom, actionSize; onReading, onRecord, trace; actionBytes, written; listed, packed.
 use Prim.Native.Nat.{ℕ, _*_}
-use mathlib.Core.Bool.{Bool, cond}
+use mathlib.Core.Bool.{cond}
 use mathlib.Core.List.{List, [], _∷_, _++_}
 use lib.Dec.{leb}
 use lib.ListN.{length, take, drop, replicate}

@@ -1,6 +1,6 @@
 -- Document 01, "What the box remembers": soundness of a state, and the cold start.
 -- Defines: placeCount; first, seek; limitsOk, trainOk, marksOk, absent, placesOk, sound; cold, coldStart.
-use Prim.Native.Nat.{ℕ, suc, _+_}
+use Prim.Native.Nat.{ℕ, suc}
 use mathlib.Core.Bool.{Bool, true, false, cond, _&&_, not}
 use mathlib.Core.List.{List, [], _∷_}
 use lib.Dec.{eqb, leb, ltb}

@@ -1,0 +1,218 @@
+-- What every turn of a place keeps to, whatever the phase and the event.
+-- Proves: by-row, judged-case; turn-sound, turn-fresh, turn-few, judged-x, sessions-rbc; event-sound, shut-sound, after-holds.
+use mathlib.Core.Path.{_≡_, refl, ap}
+use mathlib.Core.Bool.{Bool, true, false, cond, _&&_}
+use Prim.Native.Nat.{ℕ, _+_, _≤_, _<_, _/_}
+use native.Mathlib.Omega.{arith}
+use lib.Dec.{eqb, leb, ltb}
+use lib.ListN.{length}
+use borrow.Author.Tests.{ltb-true, le-leb, eq-eqb}
+use Rattle.record.specs.Partners.{isRbc, partnerOk}
+use Rattle.record.specs.declared.partner.Partner.{Partner}
+use Rattle.record.specs.declared.event.PartnerEvent.{PartnerEvent}
+use Rattle.record.proofs.Tests.{and-left, and-right, and-both, true-false, cond-case, cond-holds, All, getD-all}
+use Rattle.place.specs.Places.{phaseNumber, tries, phaseOk, incomingPhase, directionOk, holdingOk, placeOk, seat, holds, holdsIn}
+use Rattle.place.specs.Table.{refuse, table, column, closing, firstTry, supported, judged, oneMore, again, play, versionOf, turn, numbers, placeAfter, holdingTurn, due, inSession, shutHolding, established, incompatible, terminate}
+use Rattle.place.specs.declared.phase.Phase.{Phase}
+use Rattle.place.specs.declared.phase.Phase.the-variants.{Connecting, Contacting, Open, Lost, Ending}
+use Rattle.place.specs.declared.seat.Direction.{Direction}
+use Rattle.place.specs.declared.seat.Direction.the-variants.{Outgoing, Incoming}
+use Rattle.place.specs.declared.seat.Holding.{Holding}
+use Rattle.place.specs.declared.seat.Holding.the-variants.{Free, Held}
+use Rattle.place.specs.declared.seat.Place.{Place}
+use Rattle.place.specs.declared.turn.Limits.{Limits}
+use Rattle.place.specs.declared.turn.Turn.{Turn}
+use Rattle.place.specs.declared.turn.Turn.the-variants.{Refused, Released, Becomes, Sends, SendsBoth}
+use Rattle.place.specs.declared.turn.Due.{Due}
+use Rattle.place.specs.declared.turn.Due.the-variants.{Sessions}
+
+-- what is asked of the phase that a turn leads to, if it leads to one
+abbrev pub onNext : (Phase → Type 0) → Turn → Type 0
+onNext P Refused = Unit
+onNext P Released = Unit
+onNext P (Becomes q) = P q
+onNext P (Sends number q) = P q
+onNext P (SendsBoth first second q) = P q
+
+-- a law of every turn is one of every cell of every row
+pub by-row : (P : Phase → Turn → Type 0) (n : ℕ) (l : Limits) → ((ph : Phase) (v : ℕ) → All (λ c. P ph (play n l ph v c)) (table ph)) → ((ph : Phase) → P ph Refused) → (ph : Phase) (e : PartnerEvent) → P ph (turn n l ph e)
+unfolding turn
+by-row P n l row outside ph e =
+    getD-all (λ c. P ph (play n l ph (versionOf e) c)) (table ph) refuse (row ph (versionOf e)) (outside ph) (column e)
+
+-- a judged version opens the session or ends it
+pub judged-case : (P : Turn → Type 0) (l : Limits) (v : ℕ) → P (Sends established Open) → P (SendsBoth incompatible terminate (Ending firstTry)) → P (judged l v)
+judged-case P l v = cond-holds P (supported l v) (Sends established Open) (SendsBoth incompatible terminate (Ending firstTry))
+
+-- the next phase is sound, and fit for an incoming place where the phase was
+abbrev pub NextSound : ℕ → Phase → Turn → Type 0
+NextSound n ph = onNext (λ q. (phaseOk n q ≡ true) × (incomingPhase ph ≡ true → incomingPhase q ≡ true))
+
+more-ok : (n : ℕ) (ph : Phase) → ltb (tries ph) n ≡ true → phaseOk n (oneMore ph) ≡ true
+more-ok n ph lt = by ph (ltb-true (tries ph) n lt)
+  where
+    within : (t : ℕ) → t + 1 ≤ n → (leb 1 (t + 1) && leb (t + 1) n) ≡ true
+    within t h = and-both (leb 1 (t + 1)) (leb (t + 1) n) (le-leb 1 (t + 1) (omega arith)) (le-leb (t + 1) n h)
+
+    by : (q : Phase) → tries q < n → phaseOk n (oneMore q) ≡ true
+    by (Connecting t) h = within t (omega arith)
+    by (Contacting t) h = within t (omega arith)
+    by Open h = refl
+    by (Lost t) h = within t (omega arith)
+    by (Ending t) h = within t (omega arith)
+
+more-incoming : (ph : Phase) → incomingPhase ph ≡ true → incomingPhase (oneMore ph) ≡ true
+more-incoming (Connecting t) h = h
+more-incoming (Contacting t) h = h
+more-incoming Open h = h
+more-incoming (Lost t) h = h
+more-incoming (Ending t) h = h
+
+module _ (n : ℕ) (some-try : 1 ≤ n) where
+  first-ok : leb 1 n ≡ true
+  first-ok = le-leb 1 n some-try
+
+  again-sound : (number : ℕ) (ph : Phase) → NextSound n ph (again n number ph)
+  again-sound number ph =
+      cond-case (NextSound n ph) (ltb (tries ph) n) (Sends number (oneMore ph)) Released
+      (λ lt. (more-ok n ph lt, more-incoming ph))
+      (λ ge. tt)
+
+  pub closing-sound : (ph : Phase) → NextSound n ph (closing ph)
+  closing-sound (Connecting t) = tt
+  closing-sound (Contacting t) = tt
+  closing-sound Open = (first-ok, λ i. refl)
+  closing-sound (Lost t) = tt
+  closing-sound (Ending t) = tt
+
+  judged-sound : (l : Limits) (ph : Phase) (v : ℕ) → NextSound n ph (judged l v)
+  judged-sound l ph v = judged-case (NextSound n ph) l v (refl, λ i. refl) (first-ok, λ i. refl)
+
+  row-sound : (l : Limits) (ph : Phase) (v : ℕ) → All (λ c. NextSound n ph (play n l ph v c)) (table ph)
+  row-sound l (Connecting t) v =
+      (tt, ((first-ok, λ i. true-false false i refl), (tt, (again-sound 21 (Connecting t), (tt, (tt, tt))))))
+  row-sound l (Contacting t) v =
+      (tt, (tt, (tt, (again-sound 155 (Contacting t), (judged-sound l (Contacting t) v, (tt, tt))))))
+  row-sound l Open v = (closing-sound Open, (tt, ((first-ok, λ i. refl), (tt, (tt, (tt, tt))))))
+  row-sound l (Lost t) v = (tt, ((refl, λ i. refl), (tt, (again-sound 21 (Lost t), (tt, (tt, tt))))))
+  row-sound l (Ending t) v = (tt, (tt, (tt, (again-sound 156 (Ending t), (tt, (tt, tt))))))
+
+  -- a turn leads to a sound phase, and keeps "Connecting and Contacting are outgoing"
+  pub turn-sound : (l : Limits) (ph : Phase) (e : PartnerEvent) → NextSound n ph (turn n l ph e)
+  turn-sound l = by-row (NextSound n) n l (row-sound l) (λ ph. tt)
+
+-- the tries at which a phase is entered
+abbrev pub firstTries : Phase → ℕ
+firstTries (Connecting t) = 1
+firstTries (Contacting t) = 1
+firstTries Open = 0
+firstTries (Lost t) = 1
+firstTries (Ending t) = 1
+
+-- one more try in the same phase, or the first of another
+abbrev pub fresh : Phase → Phase → Bool
+fresh ph q = cond (eqb (phaseNumber ph) (phaseNumber q)) (eqb (tries q) (tries ph + 1)) (eqb (tries q) (firstTries q))
+
+abbrev NextFresh : Phase → Turn → Type 0
+NextFresh ph = onNext (λ q. fresh ph q ≡ true)
+
+again-fresh : (n number : ℕ) (ph : Phase) → fresh ph (oneMore ph) ≡ true → NextFresh ph (again n number ph)
+again-fresh n number ph h = cond-holds (NextFresh ph) (ltb (tries ph) n) (Sends number (oneMore ph)) Released h tt
+
+row-fresh : (n : ℕ) (l : Limits) (ph : Phase) (v : ℕ) → All (λ c. NextFresh ph (play n l ph v c)) (table ph)
+row-fresh n l (Connecting t) v =
+    (tt, (refl, (tt, (again-fresh n 21 (Connecting t) (eq-eqb (t + 1) (t + 1) refl), (tt, (tt, tt))))))
+row-fresh n l (Contacting t) v = (
+  tt,
+  (
+    tt,
+    (
+      tt,
+      (
+        again-fresh n 155 (Contacting t) (eq-eqb (t + 1) (t + 1) refl),
+        (judged-case (NextFresh (Contacting t)) l v refl refl, (tt, tt)),
+      ),
+    ),
+  ),
+)
+row-fresh n l Open v = (refl, (tt, (refl, (tt, (tt, (tt, tt))))))
+row-fresh n l (Lost t) v =
+    (tt, (refl, (tt, (again-fresh n 21 (Lost t) (eq-eqb (t + 1) (t + 1) refl), (tt, (tt, tt))))))
+row-fresh n l (Ending t) v =
+    (tt, (tt, (tt, (again-fresh n 156 (Ending t) (eq-eqb (t + 1) (t + 1) refl), (tt, (tt, tt))))))
+
+-- no turn carries the old phase's tries into another phase
+pub turn-fresh : (n : ℕ) (l : Limits) (ph : Phase) (e : PartnerEvent) → onNext (λ q. fresh ph q ≡ true) (turn n l ph e)
+turn-fresh n l = by-row NextFresh n l (row-fresh n l) (λ ph. tt)
+
+-- a turn has at most two actions
+pub turn-few : (t : Turn) → length (numbers t) ≤ 2
+turn-few Refused = omega arith
+turn-few Released = omega arith
+turn-few (Becomes q) = omega arith
+turn-few (Sends number q) = omega arith
+turn-few (SendsBoth first second q) = omega arith
+
+-- versions with the same X are judged alike
+pub judged-x : (l : Limits) (v w : ℕ) → v / 16 ≡ w / 16 → judged l v ≡ judged l w
+judged-x l v w same =
+    ap (λ x. cond (leb (l .lowest) x && leb x (l .highest)) (Sends established Open) (SendsBoth incompatible terminate (Ending 1))) same
+
+-- an RBC's order ends sessions with RBCs only
+pub sessions-rbc : (ph : Phase) (p : Partner) → due Sessions ph p ≡ true → isRbc p ≡ true
+sessions-rbc ph p h = and-left (isRbc p) (inSession ph) h
+
+-- a direction that fits a phase fits the next one
+direction-next : (d : Direction) (ph q : Phase) (p : Partner) → directionOk d ph p ≡ true → (incomingPhase ph ≡ true → incomingPhase q ≡ true) → directionOk d q p ≡ true
+direction-next Outgoing ph q p ok keeps = refl
+direction-next Incoming ph q p ok keeps =
+    and-both (isRbc p) (incomingPhase q) (and-left (isRbc p) (incomingPhase ph) ok) (keeps (and-right (isRbc p) (incomingPhase ph) ok))
+
+-- a sound place after a turn that keeps to the phases is sound
+after-sound : (n : ℕ) (d : Direction) (ph : Phase) (p : Partner) (t : Turn) → placeOk n (seat d ph p) ≡ true → NextSound n ph t → placeOk n (placeAfter (seat d ph p) t) ≡ true
+after-sound n d ph p t ok = by t
+  where
+    partner : partnerOk p ≡ true
+    partner = and-left (partnerOk p) (phaseOk n ph && directionOk d ph p) ok
+
+    direction : directionOk d ph p ≡ true
+    direction = and-right (phaseOk n ph) (directionOk d ph p) (and-right (partnerOk p) (phaseOk n ph && directionOk d ph p) ok)
+
+    next : (q : Phase) → (phaseOk n q ≡ true) × (incomingPhase ph ≡ true → incomingPhase q ≡ true) → placeOk n (seat d q p) ≡ true
+    next q sound =
+        and-both (partnerOk p) (phaseOk n q && directionOk d q p) partner
+        (and-both (phaseOk n q) (directionOk d q p) (sound .0) (direction-next d ph q p direction (sound .1)))
+
+    by : (t : Turn) → NextSound n ph t → placeOk n (placeAfter (seat d ph p) t) ≡ true
+    by Refused sound = ok
+    by Released sound = refl
+    by (Becomes q) sound = next q sound
+    by (Sends number q) sound = next q sound
+    by (SendsBoth first second q) sound = next q sound
+
+-- a sound place stays sound after an event that names its partner
+pub event-sound : (n : ℕ) → 1 ≤ n → (l : Limits) (k : Holding) (e : PartnerEvent) → holdingOk n k ≡ true → placeOk n (placeAfter (record { holding = k }) (holdingTurn n l k e)) ≡ true
+event-sound n some-try l Free e ok = refl
+event-sound n some-try l (Held d ph p) e ok = after-sound n d ph p (turn n l ph e) ok (turn-sound n some-try l ph e)
+
+-- and after a closing
+pub shut-sound : (n : ℕ) → 1 ≤ n → (which : Due) (k : Holding) → holdingOk n k ≡ true → placeOk n (placeAfter (record { holding = k }) (shutHolding which k)) ≡ true
+shut-sound n some-try which Free ok = refl
+shut-sound n some-try which (Held d ph p) ok =
+    cond-holds (λ t. placeOk n (placeAfter (seat d ph p) t) ≡ true) (due which ph p) (closing ph) Refused
+    (after-sound n d ph p (closing ph) ok (closing-sound n some-try ph))
+    ok
+
+-- a place holds after a turn whom it held before, or nobody
+pub after-holds : (q : Partner) (place : Place) (t : Turn) → holds q (placeAfter place t) ≡ true → holds q place ≡ true
+after-holds q place t = by t (place .holding)
+  where
+    by : (t : Turn) (k : Holding) → holds q (placeAfter (record { holding = k }) t) ≡ true → holdsIn q k ≡ true
+    by Refused k h = h
+    by Released k h = true-false false h refl
+    by (Becomes next) Free h = h
+    by (Becomes next) (Held d ph p) h = h
+    by (Sends number next) Free h = h
+    by (Sends number next) (Held d ph p) h = h
+    by (SendsBoth first second next) Free h = h
+    by (SendsBoth first second next) (Held d ph p) h = h

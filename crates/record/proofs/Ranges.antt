@@ -1,0 +1,97 @@
+-- A record that is read is in its ranges; one that is refused has 1, 2 or 3.
+-- Proves: reading-ok.
+use mathlib.Core.Path.{_≡_, refl}
+use mathlib.Core.Bool.{Bool, true, false, cond, _&&_, _||_}
+use mathlib.Core.List.{List, [], _∷_}
+use Prim.Native.Nat.{ℕ}
+use lib.Dec.{eqb, leb, ltb}
+use lib.ListN.{length}
+use Rattle.record.specs.Partners.{partnerOk}
+use Rattle.record.specs.Records.{reading, Body, bodies, bodyOf, noBody, partnerBody, byte, bit, causes, partnerIn, known, lengthOf, highestLevel, messageVersion, messageCall, messageEnded, highestVersion, messageOk, messageMeans, partnerEventOk, eventOk}
+use Rattle.record.specs.Refusals.{wrongLength, unknownKind, outOfRange}
+use Rattle.record.specs.declared.event.PartnerEvent.{PartnerEvent}
+use Rattle.record.specs.declared.event.PartnerEvent.the-variants.{Drop, Up, Loss, Timeout, Version, Ended}
+use Rattle.record.specs.declared.event.Event.the-variants.{Call, Named}
+use Rattle.record.specs.declared.event.Reading.{Reading}
+use Rattle.record.specs.declared.event.Reading.the-variants.{Meant, Refused}
+use Rattle.record.specs.declared.partner.Partner.{Partner}
+use Rattle.record.proofs.Tests.{and-left, and-right, and-both, true-false, cond-case, cond-holds, getD-all}
+
+-- what a reading may be: an event in its ranges, or refusal 1, 2 or 3
+abbrev pub readingOk : Reading → Bool
+readingOk (Meant e) = eventOk e
+readingOk (Refused r) = leb wrongLength r && leb r outOfRange
+
+abbrev Ok : Reading → Type 0
+Ok r = readingOk r ≡ true
+
+-- where the ranges of a row hold, its event is in its ranges
+abbrev Ranged : Body → Type 0
+Ranged body = (s : List ℕ) → body .ranges s ≡ true → eventOk (body .means s) ≡ true
+
+partner-ranged : (e : PartnerEvent) → partnerEventOk e ≡ true → Ranged (partnerBody e)
+partner-ranged e h s ok = and-both (partnerOk (partnerIn s)) (partnerEventOk e) ok h
+
+message-ranged : (number version : ℕ) (p : Partner) → partnerOk p ≡ true → messageOk number version ≡ true → eventOk (messageMeans number version p) ≡ true
+message-ranged number version p ok h = by (eqb number messageVersion) (eqb number messageCall) (eqb number messageEnded) h
+  where
+    by : (a b c : Bool) → cond a (leb version highestVersion) ((b || c) && eqb version 0) ≡ true → eventOk (cond a (Named p (Version version)) (cond b (Call p) (Named p Ended))) ≡ true
+    by true b c h = and-both (partnerOk p) (leb version highestVersion) ok h
+    by false true c h = ok
+    by false false c h = and-both (partnerOk p) true ok refl
+
+bodies-ranged : (kind : ℕ) → Ranged (bodyOf kind)
+bodies-ranged =
+    getD-all Ranged bodies noBody (
+      λ s ok. true-false _ ok refl,
+      (
+        λ s ok. and-left (leb (byte s 1) highestLevel) (bit (byte s 2)) ok,
+        (
+          λ s ok. ok,
+          (
+            λ s ok. refl,
+            (
+              λ s ok. refl,
+              (
+                λ s ok. and-left (partnerOk (partnerIn s)) (bit (byte s 5) && ltb (byte s 6) (length causes)) ok,
+                (
+                  partner-ranged Drop refl,
+                  (
+                    λ s ok. refl,
+                    (
+                      partner-ranged Up refl,
+                      (
+                        partner-ranged Loss refl,
+                        (
+                          partner-ranged Timeout refl,
+                          (
+                            λ s ok.
+                                message-ranged (byte s 5) (byte s 6) (partnerIn s)
+                                (and-left (partnerOk (partnerIn s)) (messageOk (byte s 5) (byte s 6)) ok)
+                                (and-right (partnerOk (partnerIn s)) (messageOk (byte s 5) (byte s 6)) ok),
+                            tt,
+                          ),
+                        ),
+                      ),
+                    ),
+                  ),
+                ),
+              ),
+            ),
+          ),
+        ),
+      ),
+    )
+    (λ s ok. true-false _ ok refl)
+
+pub reading-ok : (s : List ℕ) → readingOk (reading s) ≡ true
+unfolding reading
+reading-ok [] = refl
+reading-ok (kind ∷ body) =
+    cond-holds Ok (known kind) _ (Refused unknownKind)
+    (cond-holds Ok (eqb (length (kind ∷ body)) (lengthOf kind)) _ (Refused wrongLength)
+    (cond-case Ok (bodyOf kind .ranges (kind ∷ body)) (Meant (bodyOf kind .means (kind ∷ body))) (Refused outOfRange)
+    (bodies-ranged kind (kind ∷ body))
+    (λ no-range. refl))
+    refl)
+    refl

@@ -1,0 +1,197 @@
+-- Soundness as facts. That of the places is an account: no place is bad, and no partner weighs more than one.
+-- Proves: places-facts, facts-places; sound-facts, facts-sound; set-facts, take-facts, shut-here, shut-facts, place-at.
+use mathlib.Core.Path.{_≡_, refl, ap, _∙_}
+use mathlib.Core.Bool.{Bool, true, false, cond, _&&_}
+use mathlib.Core.List.{List, [], _∷_}
+use Prim.Native.Nat.{ℕ, _+_, _≤_, _<_}
+use native.Mathlib.Omega.{arith}
+use lib.Dec.{eqb}
+use lib.ListN.{length, getD, set}
+use borrow.Author.Tests.{leb-true, le-leb, eqb-true, eq-eqb}
+use Rattle.record.specs.Partners.{samePartner}
+use Rattle.record.specs.declared.partner.Partner.{Partner}
+use Rattle.record.proofs.Tests.{and-left, and-right, and-both, cond-case, cond-holds, same-refl, same-eq}
+use Rattle.place.specs.Places.{vacant, seat, holds, holdsIn, placeOk}
+use Rattle.place.specs.Table.{placeAfter, shutTurn}
+use Rattle.place.specs.declared.phase.Phase.{Phase}
+use Rattle.place.specs.declared.seat.Direction.{Direction}
+use Rattle.place.specs.declared.seat.Holding.{Holding}
+use Rattle.place.specs.declared.seat.Holding.the-variants.{Free, Held}
+use Rattle.place.specs.declared.seat.Place.{Place}
+use Rattle.place.specs.declared.turn.Due.{Due}
+use Rattle.place.proofs.Turns.{shut-sound, after-holds}
+use Rattle.unit.specs.States.{placeCount, first, limitsOk, trainOk, marksOk, absentFrom, placesOk, sound}
+use Rattle.unit.specs.Steps.{shut}
+use Rattle.unit.specs.declared.state.State.{State}
+use Rattle.unit.proofs.Weights.{weigh, once, here, weigh-set, weigh-shut, weigh-at}
+use Rattle.unit.proofs.Searches.{first-none, none-first}
+
+-- 1 where a test fails
+abbrev fails : Bool → ℕ
+fails b = cond b 0 1
+
+-- 1 for a place that is not sound by itself
+abbrev pub bad : ℕ → Place → ℕ
+bad n p = fails (placeOk n p)
+
+-- the two facts of sound places
+abbrev pub PlacesFacts : ℕ → List Place → Type 0
+PlacesFacts n ps = (weigh (bad n) ps ≡ 0) × ((q : Partner) → weigh (here (holds q)) ps ≤ 1)
+
+passes-none : (b : Bool) → b ≡ true → fails b ≡ 0
+passes-none b h = ap fails h
+
+none-passes : (b : Bool) → fails b ≡ 0 → b ≡ true
+none-passes true h = refl
+none-passes false h = absurd (omega arith)
+
+fails-less : (a b : Bool) → (a ≡ true → b ≡ true) → fails b ≤ fails a
+fails-less true b h =
+    let e = passes-none b (h refl) in
+    omega arith
+fails-less false true h = omega arith
+fails-less false false h = omega arith
+
+here-less : (a b : Bool) → (b ≡ true → a ≡ true) → once b ≤ once a
+here-less a false h = cond-holds (λ w. 0 ≤ w) a 1 0 (omega arith) (omega arith)
+here-less a true h =
+    let e : once a ≡ 1 = ap once (h refl) in
+    omega arith
+
+-- a partner that is absent from the places above takes its own place alone
+alone : (q : Partner) (k : Holding) (ps : List Place) → absentFrom ps k ≡ true → weigh (here (holds q)) ps ≤ 1 → once (holdsIn q k) + weigh (here (holds q)) ps ≤ 1
+alone q Free ps absent rest = omega arith
+alone q (Held d ph r) ps absent rest =
+    cond-case (λ w. w + weigh (here (holds q)) ps ≤ 1) (samePartner q r) 1 0
+    (λ same.
+    let none : weigh (here (holds r)) ps ≡ 0 = first-none (holds r) ps (leb-true (length ps) (first (holds r) ps) absent) in
+    let none-q : weigh (here (holds q)) ps ≡ 0 = ap (λ p. weigh (here (holds p)) ps) (same-eq q r same) ∙ none in
+    omega arith)
+    (λ other. omega arith)
+
+-- and one that weighs no more than one is absent from those above
+lone : (k : Holding) (ps : List Place) → ((q : Partner) → once (holdsIn q k) + weigh (here (holds q)) ps ≤ 1) → absentFrom ps k ≡ true
+lone Free ps one = refl
+lone (Held d ph r) ps one =
+    let itself : once (samePartner r r) ≡ 1 = ap once (same-refl r) in
+    let both = one r in
+    le-leb (length ps) (first (holds r) ps) (none-first (holds r) ps (omega arith))
+
+pub places-facts : (n : ℕ) (ps : List Place) → placesOk n ps ≡ true → PlacesFacts n ps
+unfolding placesOk weigh
+places-facts n [] ok = (refl, λ q. omega arith)
+places-facts n (p ∷ ps) ok =
+    let above = absentFrom ps (p .holding) && placesOk n ps in
+    let rest = places-facts n ps (and-right (absentFrom ps (p .holding)) (placesOk n ps) (and-right (placeOk n p) above ok)) in
+    let good = passes-none (placeOk n p) (and-left (placeOk n p) above ok) in
+    let none = rest .0 in (
+      omega arith,
+      λ q. alone q (p .holding) ps (and-left (absentFrom ps (p .holding)) (placesOk n ps) (and-right (placeOk n p) above ok)) (rest .1 q),
+    )
+
+pub facts-places : (n : ℕ) (ps : List Place) → PlacesFacts n ps → placesOk n ps ≡ true
+unfolding placesOk weigh
+facts-places n [] facts = refl
+facts-places n (p ∷ ps) facts =
+    let none = facts .0 in
+    and-both (placeOk n p) (absentFrom ps (p .holding) && placesOk n ps) (none-passes (placeOk n p) (omega arith))
+    (and-both (absentFrom ps (p .holding)) (placesOk n ps) (lone (p .holding) ps (facts .1))
+    (facts-places n ps (
+      omega arith,
+      λ q.
+          let one = facts .1 q in
+          omega arith,
+    )))
+
+-- what soundness says, part by part
+pub record Facts (n : ℕ) (s : State) : Type 0 where
+  pub limits : limitsOk (s .limits) ≡ true
+  pub train : trainOk (s .train) ≡ true
+  pub marks : marksOk (s .marks) ≡ true
+  pub four : length (s .places) ≡ placeCount
+  pub places : PlacesFacts n (s .places)
+
+pub sound-facts : (n : ℕ) (s : State) → sound n s ≡ true → Facts n s
+unfolding sound
+sound-facts n s ok =
+    let fourth = eqb (length (s .places)) placeCount && placesOk n (s .places) in
+    let third = marksOk (s .marks) && fourth in
+    let second = trainOk (s .train) && third in
+    let h₁ = and-right (limitsOk (s .limits)) second ok in
+    let h₂ = and-right (trainOk (s .train)) third h₁ in
+    let h₃ = and-right (marksOk (s .marks)) fourth h₂ in
+    record {
+      limits = and-left (limitsOk (s .limits)) second ok;
+      train = and-left (trainOk (s .train)) third h₁;
+      marks = and-left (marksOk (s .marks)) fourth h₂;
+      four = eqb-true (length (s .places)) placeCount (and-left (eqb (length (s .places)) placeCount) (placesOk n (s .places)) h₃);
+      places = places-facts n (s .places) (and-right (eqb (length (s .places)) placeCount) (placesOk n (s .places)) h₃);
+    }
+
+pub facts-sound : (n : ℕ) (s : State) → Facts n s → sound n s ≡ true
+unfolding sound
+facts-sound n s f =
+    and-both (limitsOk (s .limits)) _ (f .limits)
+    (and-both (trainOk (s .train)) _ (f .train)
+    (and-both (marksOk (s .marks)) _ (f .marks)
+    (and-both (eqb (length (s .places)) placeCount) (placesOk n (s .places)) (eq-eqb (length (s .places)) placeCount (f .four))
+    (facts-places n (s .places) (f .places)))))
+
+-- a store of a sound place that holds no other partner than the old one keeps the facts
+pub set-facts : (n : ℕ) (ps : List Place) (i : ℕ) (x : Place) → PlacesFacts n ps → i < length ps → placeOk n x ≡ true → ((q : Partner) → holds q x ≡ true → holds q (getD ps i vacant) ≡ true) → PlacesFacts n (set ps i x)
+set-facts n ps i x facts below good same =
+    let none = facts .0 in
+    let account = weigh-set (bad n) ps i x below in
+    let new = passes-none (placeOk n x) good in (
+      omega arith,
+      λ q.
+          let one = facts .1 q in
+          let store = weigh-set (here (holds q)) ps i x below in
+          let less = here-less (holds q (getD ps i vacant)) (holds q x) (same q) in
+          omega arith,
+    )
+
+-- so does the store of a partner that has no place
+pub take-facts : (n : ℕ) (ps : List Place) (i : ℕ) (d : Direction) (ph : Phase) (p : Partner) → PlacesFacts n ps → i < length ps → placeOk n (seat d ph p) ≡ true → weigh (here (holds p)) ps ≡ 0 → PlacesFacts n (set ps i (seat d ph p))
+take-facts n ps i d ph p facts below good absent =
+    let none = facts .0 in
+    let account = weigh-set (bad n) ps i (seat d ph p) below in
+    let new = passes-none (placeOk n (seat d ph p)) good in (
+      omega arith,
+      λ q.
+          let one = facts .1 q in
+          let store = weigh-set (here (holds q)) ps i (seat d ph p) below in
+          cond-case (λ w. weigh (here (holds q)) (set ps i (seat d ph p)) + here (holds q) (getD ps i vacant) ≡ weigh (here (holds q)) ps + w → weigh (here (holds q)) (set ps i (seat d ph p)) ≤ 1) (samePartner q p) 1 0
+          (λ itself account.
+          let none-q : weigh (here (holds q)) ps ≡ 0 = ap (λ r. weigh (here (holds r)) ps) (same-eq q p itself) ∙ absent in
+          omega arith)
+          (λ other account. omega arith)
+          store,
+    )
+
+-- a closing gives no partner a place
+pub shut-here : (which : Due) (ps : List Place) (q : Partner) → weigh (here (holds q)) (shut which ps) ≤ weigh (here (holds q)) ps
+shut-here which ps q =
+    weigh-shut (here (holds q)) which ps
+    (λ p. here-less (holds q p) (holds q (placeAfter p (shutTurn which p))) (after-holds q p (shutTurn which p)))
+
+-- and keeps the facts
+pub shut-facts : (n : ℕ) → 1 ≤ n → (which : Due) (ps : List Place) → PlacesFacts n ps → PlacesFacts n (shut which ps)
+shut-facts n some-try which ps facts =
+    let none = facts .0 in
+    let account =
+    weigh-shut (bad n) which ps
+    (λ p. fails-less (placeOk n p) (placeOk n (placeAfter p (shutTurn which p))) (shut-sound n some-try which (p .holding))) in (
+      omega arith,
+      λ q.
+          let one = facts .1 q in
+          let less = shut-here which ps q in
+          omega arith,
+    )
+
+-- the place at a number of sound places is sound
+pub place-at : (n : ℕ) (ps : List Place) (i : ℕ) → PlacesFacts n ps → i < length ps → placeOk n (getD ps i vacant) ≡ true
+place-at n ps i facts below =
+    let none = facts .0 in
+    let less = weigh-at (bad n) ps i below in
+    none-passes (placeOk n (getD ps i vacant)) (omega arith)

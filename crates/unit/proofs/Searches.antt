@@ -1,0 +1,76 @@
+-- What a search finds, for any test and any number of places.
+-- Proves: first-passes, first-none, none-first, getD-shut; seek-ok.
+use mathlib.Core.Path.{_≡_, refl, ap}
+use mathlib.Core.Bool.{Bool, true, cond}
+use mathlib.Core.List.{List, [], _∷_}
+use Prim.Native.Nat.{suc, _+_, _≤_, _<_}
+use native.Mathlib.Nat.{le-of-suc-le-suc}
+use native.Mathlib.Omega.{arith}
+use lib.Dec.{ltb}
+use lib.ListN.{length, getD}
+use borrow.Author.Tests.{ltb-true, ltb-false}
+use Rattle.record.specs.declared.partner.Partner.{Partner}
+use Rattle.record.proofs.Tests.{cond-case}
+use Rattle.place.specs.Places.{vacant, isFree, holds}
+use Rattle.place.specs.declared.seat.Place.{Place}
+use Rattle.unit.specs.States.{first, seek}
+use Rattle.unit.specs.declared.state.Found.{Found}
+use Rattle.unit.specs.declared.state.Found.the-variants.{At, Vacant, Full}
+use Rattle.unit.proofs.Weights.{weigh, once, here}
+
+-- the place found passes
+pub first-passes : (test : Place → Bool) (ps : List Place) → first test ps < length ps → test (getD ps (first test ps) vacant) ≡ true
+unfolding first
+first-passes test [] = λ h. absurd (omega arith)
+first-passes test (p ∷ ps) =
+    cond-case (λ k. k < suc (length ps) → test (getD (p ∷ ps) k vacant) ≡ true) (test p) 0 (suc (first test ps))
+    (λ passes h. passes)
+    (λ fails h. first-passes test ps (le-of-suc-le-suc h))
+
+-- where none is found, none passes
+pub first-none : (test : Place → Bool) (ps : List Place) → length ps ≤ first test ps → weigh (here test) ps ≡ 0
+unfolding first weigh
+first-none test [] = λ h. refl
+first-none test (p ∷ ps) =
+    cond-case (λ k. suc (length ps) ≤ k → here test p + weigh (here test) ps ≡ 0) (test p) 0 (suc (first test ps))
+    (λ passes h. absurd (omega arith))
+    (λ fails h.
+    let first-fails : here test p ≡ 0 = ap once fails in
+    let rest = first-none test ps (le-of-suc-le-suc h) in
+    omega arith)
+
+-- where none passes, none is found
+pub none-first : (test : Place → Bool) (ps : List Place) → weigh (here test) ps ≡ 0 → length ps ≤ first test ps
+unfolding first weigh
+none-first test [] h = omega arith
+none-first test (p ∷ ps) h =
+    cond-case (λ k. suc (length ps) ≤ k) (test p) 0 (suc (first test ps))
+    (λ passes.
+    let first-passes : here test p ≡ 1 = ap once passes in
+    absurd (omega arith))
+    (λ fails.
+    let rest = none-first test ps (omega arith) in
+    omega arith)
+
+-- what the search for a partner's place says
+abbrev pub FoundOk : Partner → List Place → Found → Type 0
+FoundOk p ps (At i) = (i < length ps) × (holds p (getD ps i vacant) ≡ true)
+FoundOk p ps (Vacant i) = (i < length ps) × (isFree (getD ps i vacant) ≡ true) × (weigh (here (holds p)) ps ≡ 0)
+FoundOk p ps Full = (weigh (here isFree) ps ≡ 0) × (weigh (here (holds p)) ps ≡ 0)
+
+pub seek-ok : (p : Partner) (ps : List Place) → FoundOk p ps (seek p ps)
+unfolding seek
+seek-ok p ps =
+    let held = first (holds p) ps in
+    let free = first isFree ps in
+    cond-case (FoundOk p ps) (ltb held (length ps)) (At held) (cond (ltb free (length ps)) (Vacant free) Full)
+    (λ found.
+    let below = ltb-true held (length ps) found in
+    (below, first-passes (holds p) ps below))
+    (λ missed.
+    let absent = first-none (holds p) ps (ltb-false held (length ps) missed) in
+    cond-case (FoundOk p ps) (ltb free (length ps)) (Vacant free) Full
+    (λ found.
+    let below = ltb-true free (length ps) found in
+    (below, first-passes isFree ps below, absent))
+    (λ full. (first-none isFree ps (ltb-false free (length ps) full), absent)))
