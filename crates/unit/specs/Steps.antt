@@ -1,6 +1,6 @@
 -- Document 01, "Rules of one step": one step on values, for every kind of event.
 -- Defines: Outcome, refused, done; withTrain, withMarks, withPlaces; levelled, holed, shut, shutting, sweep, missioned;
--- inForce, spend, displaced, ordered; called; turned, namedAt; step.
+-- inForce, spend, displaced, ordered; called; turnedAt, turned, namedAt; step.
 use Prim.Native.Nat.{ℕ}
 use mathlib.Core.Bool.{Bool, true, false, cond, _&&_, _||_, not}
 use mathlib.Core.List.{List, [], _∷_, _++_, map}
@@ -166,11 +166,13 @@ abbrev pub called : State → Partner → Outcome
 called s p = cond (isRbc p) (calledAt s p (seek p (s .places))) (refused refusal.callFromRiu s)
 
 -- a turn of the place with this number, for the partner that it holds
+abbrev pub turnedAt : State → ℕ → Partner → Turn → Outcome
+turnedAt s i p t =
+    done (withPlaces s (set (s .places) i (placeAfter (getD (s .places) i vacant) t))) (map (act p) (numbers t))
+
+-- "\"no\" is refusal 7"
 abbrev pub turned : State → ℕ → Partner → Turn → Outcome
-turned s i p t =
-    cond (takes t)
-    (done (withPlaces s (set (s .places) i (placeAfter (getD (s .places) i vacant) t))) (map (act p) (numbers t)))
-    (refused refusal.notTaken s)
+turned s i p t = cond (takes t) (turnedAt s i p t) (refused refusal.notTaken s)
 
 -- "for other partner events 6, 7"
 abbrev pub namedAt : ℕ → State → Partner → PartnerEvent → Found → Outcome

@@ -1,0 +1,459 @@
+#include "model.h"
+
+#include <string.h>
+
+_Static_assert(sizeof(State) == 36, "State has no padding");
+_Static_assert(offsetof(State, lowest) == 0 && offsetof(State, inside) == 4 &&
+               offsetof(State, hole_end) == 7 && offsetof(State, partner) == 8,
+               "the first eight bytes stand as in the image");
+
+const uint8_t record_length[KIND_LAST + 1] = {0, 3, 2, 1, 2, 7, 5, 2, 5, 5, 5, 7};
+
+static inline bool kind_known(uint8_t kind) { return (uint8_t)(kind - 1) < KIND_LAST; }
+
+static inline uint32_t get32(const uint8_t *b)
+{
+    return (uint32_t)b[0] << 24 | (uint32_t)b[1] << 16 | (uint32_t)b[2] << 8 | b[3];
+}
+
+static inline void put32(uint8_t *b, uint32_t v)
+{
+    b[0] = (uint8_t)(v >> 24);
+    b[1] = (uint8_t)(v >> 16);
+    b[2] = (uint8_t)(v >> 8);
+    b[3] = (uint8_t)v;
+}
+
+/* ---- state ---- */
+
+uint8_t cold_start(State *s, uint8_t lowest, uint8_t highest)
+{
+    memset(s, 0, sizeof *s);
+    if (highest > 7 || lowest > highest)
+        return 13;
+    s->lowest = lowest;
+    s->highest = highest;
+    return 0;
+}
+
+/* For each phase, the allowed (type, direction, tries) as bits 8 * type + 4 * direction + tries. */
+static const uint16_t place_allowed[ENDING + 1] = {
+    [FREE]       = 0x0001,   /* all zero */
+    [CONNECTING] = 0x0E0E,   /* outgoing, tries 1..3, RBC or RIU */
+    [CONTACTING] = 0x0E0E,
+    [OPEN]       = 0x0111,   /* tries 0; an RIU only outgoing */
+    [LOST]       = 0x0EEE,   /* tries 1..3; an RIU only outgoing */
+    [ENDING]     = 0x0EEE,
+};
+
+static inline bool is_sound(const State *s)
+{
+    /* Four bytes at a time; every test is the same for each of them, so their order does not
+     * matter. A phase over 5 shows in bit 7, its own or that of the sum. */
+    uint32_t marks, phases, directions, tries;
+    memcpy(&marks, (const uint8_t *)s + offsetof(State, inside), 4);
+    memcpy(&phases, s->phase, 4);
+    memcpy(&directions, s->direction, 4);
+    memcpy(&tries, s->tries, 4);
+    const uint32_t types = s->partner[0] | s->partner[1] | s->partner[2] | s->partner[3];
+    if (((marks | directions) & 0xFEFEFEFEu) | (tries & 0xFCFCFCFCu) | (types & 0xFE000000u) |
+        ((phases | (phases + 0x7A7A7A7Au)) & 0x80808080u))
+        return false;
+    if (s->highest > 7 || s->lowest > s->highest || s->level > 4 || s->mission > 2)
+        return false;
+    if (s->inside & s->hole_end)
+        return false;
+    for (int i = 0; i < PLACES; i++) {
+        const uint32_t who = s->partner[i];
+        if (!(place_allowed[s->phase[i]] >> (who >> 24 << 3 | s->direction[i] << 2 | s->tries[i]) & 1))
+            return false;
+        if (s->phase[i] == FREE) {
+            if (who != 0)
+                return false;
+        } else {
+            for (int j = 0; j < i; j++)
+                if (s->partner[j] == who && s->phase[j] != FREE)
+                    return false;
+        }
+    }
+    return true;
+}
+
+bool sound(const State *s) { return is_sound(s); }
+
+/* ---- places ---- */
+
+/* The place of this partner, or PLACES. */
+static inline unsigned find(const State *s, uint32_t who)
+{
+    unsigned i;
+    for (i = 0; i < PLACES; i++)
+        if (s->partner[i] == who && s->phase[i] != FREE)
+            break;
+    return i;
+}
+
+/* The lowest free place, or PLACES. */
+static inline unsigned find_free(const State *s)
+{
+    unsigned i;
+    for (i = 0; i < PLACES; i++)
+        if (s->phase[i] == FREE)
+            break;
+    return i;
+}
+
+static inline void set(State *s, unsigned i, uint8_t phase, uint8_t tries)
+{
+    s->phase[i] = phase;
+    s->tries[i] = tries;
+}
+
+static inline void take(State *s, unsigned i, uint32_t who, uint8_t phase, uint8_t direction,
+                        uint8_t tries)
+{
+    s->partner[i] = who;
+    s->direction[i] = direction;
+    set(s, i, phase, tries);
+}
+
+/* ---- actions: each function writes at a and gives the next place to write ---- */
+
+static inline uint8_t *act(uint8_t *a, uint8_t number, uint32_t who)
+{
+    a[0] = number;
+    put32(a + 1, who);
+    return a + ACTION_BYTES;
+}
+
+static inline uint8_t *release(State *s, unsigned i, uint8_t *a)
+{
+    a = act(a, ACT_RELEASE, s->partner[i]);
+    take(s, i, 0, FREE, 0, 0);
+    return a;
+}
+
+/* Closing a held place that is not Ending. */
+static inline uint8_t *close_place(State *s, unsigned i, uint8_t *a)
+{
+    if (s->phase[i] != OPEN)
+        return release(s, i, a);
+    set(s, i, ENDING, 1);
+    return act(a, ACT_TERMINATE, s->partner[i]);
+}
+
+static uint8_t *end_all(State *s, uint8_t *a)
+{
+    for (unsigned i = 0; i < PLACES; i++)
+        if (s->phase[i] != FREE && s->phase[i] != ENDING)
+            a = close_place(s, i, a);
+    return a;
+}
+
+/* ---- the step ---- */
+
+static inline StepResult refuse(uint8_t code) { return (StepResult){code, 0}; }
+
+static inline StepResult done(const uint8_t *from, const uint8_t *to)
+{
+    return (StepResult){0, (uint8_t)((unsigned)(to - from) / ACTION_BYTES)};
+}
+
+static inline StepResult order(State *s, uint32_t who, uint8_t accepting, uint8_t cause, uint8_t *a)
+{
+    const bool level23 = s->level == 2 || s->level == 3;
+    uint8_t *mark = NULL;                  /* the mark that acceptance clears */
+    bool in_force;
+
+    switch (cause) {
+    case 0: in_force = s->mission == 1 && level23; break;
+    case 1: in_force = true; break;
+    case 2: mark = &s->mode; in_force = *mark && s->mission != 0 && level23; break;
+    case 3: mark = &s->manual; in_force = *mark && level23; break;
+    default: mark = &s->hole_end; in_force = *mark; break;
+    }
+    if (!in_force)
+        return refuse(4);
+    if (find(s, who) < PLACES)
+        return refuse(5);
+    const unsigned free_place = find_free(s);  /* before the closings */
+    if (free_place == PLACES)
+        return refuse(8);
+
+    uint8_t *const from = a;
+    if (mark)
+        *mark = 0;
+    if (who >> 24 == RBC && !accepting)
+        for (unsigned i = 0; i < PLACES; i++)
+            if ((s->phase[i] == OPEN || s->phase[i] == LOST) && s->partner[i] >> 24 == RBC)
+                a = close_place(s, i, a);
+    take(s, free_place, who, CONNECTING, OUTGOING, 1);
+    return done(from, act(a, ACT_REQUEST, who));
+}
+
+static inline StepResult call(State *s, uint32_t who, uint8_t *a)
+{
+    if (who >> 24 == RIU)
+        return refuse(9);
+    if (find(s, who) < PLACES)
+        return refuse(5);
+    const unsigned i = find_free(s);
+    if (i == PLACES)
+        return refuse(8);
+    take(s, i, who, OPEN, INCOMING, 0);
+    return done(a, act(a, ACT_ESTABLISHED, who));
+}
+
+/* What a timeout repeats, by phase; 0 where the phase takes no timeout. */
+static const uint8_t repeated[ENDING + 1] = {
+    [CONNECTING] = ACT_REQUEST, [CONTACTING] = ACT_INITIATE, [LOST] = ACT_REQUEST,
+    [ENDING] = ACT_TERMINATE,
+};
+
+static inline StepResult step_known(State *s, const uint8_t *r, uint8_t *a)
+{
+    uint8_t *const from = a;
+    const uint8_t kind = r[0];
+
+    switch (kind) {                        /* the events without a partner */
+    case EV_LEVEL:
+        if (r[1] > 4 || r[2] > 1)
+            return refuse(3);
+        s->level = r[1];
+        s->manual |= r[2];
+        return done(a, a);
+    case EV_MISSION:
+        if (r[1] > 2)
+            return refuse(3);
+        s->mission = r[1];
+        return done(from, r[1] == 0 ? end_all(s, a) : a);
+    case EV_MODE:
+        s->mode = 1;
+        return done(a, a);
+    case EV_HOLE:
+        if (r[1] > 1)
+            return refuse(3);
+        if (s->inside == r[1])
+            return refuse(7);
+        s->inside = r[1];
+        s->hole_end = !r[1];
+        return done(a, a);
+    case EV_END_ALL:
+        if (r[1] > 1)
+            return refuse(3);
+        return done(from, end_all(s, a));
+    default:
+        break;
+    }
+
+    const uint32_t who = get32(r + 1);
+    if (who >> 24 > RIU)
+        return refuse(3);
+
+    if (kind == EV_ORDER) {
+        if (r[5] > 1 || r[6] > 4)
+            return refuse(3);
+        return order(s, who, r[5], r[6], a);
+    }
+    if (kind == EV_MESSAGE) {
+        if (r[5] == 32 ? r[6] > 127 : (r[5] != 38 && r[5] != 39) || r[6] != 0)
+            return refuse(3);
+        if (r[5] == 38)
+            return call(s, who, a);
+    }
+
+    const unsigned i = find(s, who);
+    if (i == PLACES)
+        return refuse(6);
+    const uint8_t phase = s->phase[i];
+
+    switch (kind) {
+    case EV_DROP:
+        if (phase == ENDING)
+            return refuse(7);
+        a = close_place(s, i, a);
+        break;
+    case EV_UP:
+        if (phase == CONNECTING) {
+            set(s, i, CONTACTING, 1);
+            a = act(a, ACT_INITIATE, who);
+        } else if (phase == LOST) {
+            set(s, i, OPEN, 0);
+        } else {
+            return refuse(7);
+        }
+        break;
+    case EV_LOST:
+        if (phase == CONTACTING || phase == ENDING) {
+            a = release(s, i, a);
+        } else if (phase == OPEN) {
+            set(s, i, LOST, 1);
+            a = act(a, ACT_REQUEST, who);
+        } else {
+            return refuse(7);
+        }
+        break;
+    case EV_TIMEOUT:
+        if (phase == OPEN)
+            return refuse(7);
+        if (s->tries[i] < 3) {
+            s->tries[i]++;
+            a = act(a, repeated[phase], who);
+        } else {
+            a = release(s, i, a);
+        }
+        break;
+    default:                               /* message 32 or 39 */
+        if (r[5] == 39) {
+            if (phase != ENDING)
+                return refuse(7);
+            a = release(s, i, a);
+        } else {
+            if (phase != CONTACTING)
+                return refuse(7);
+            const uint8_t x = r[6] >> 4;   /* version is 16 * X + Y */
+            if (s->lowest <= x && x <= s->highest) {
+                set(s, i, OPEN, 0);
+                a = act(a, ACT_ESTABLISHED, who);
+            } else {
+                set(s, i, ENDING, 1);
+                a = act(a, ACT_NO_VERSION, who);
+                a = act(a, ACT_TERMINATE, who);
+            }
+        }
+        break;
+    }
+    return done(from, a);
+}
+
+StepResult step_trusted(State *s, const uint8_t *record, uint8_t *actions)
+{
+    return step_known(s, record, actions);
+}
+
+StepResult step(State *s, const uint8_t *record, size_t length,
+                uint8_t *actions, size_t actions_length)
+{
+    if (actions_length < ACTION_BUFFER)
+        return refuse(10);
+    if (!is_sound(s))
+        return refuse(11);
+    if (length == 0)
+        return refuse(1);
+    if (!kind_known(record[0]))
+        return refuse(2);
+    if (length != record_length[record[0]])
+        return refuse(1);
+    return step_known(s, record, actions);
+}
+
+/* ---- the image ---- */
+
+void image_store(const State *s, uint8_t image[IMAGE_BYTES])
+{
+    image[0] = IMAGE_KIND;
+    memcpy(image + 1, s, 8);               /* X numbers, level, mission, marks stand in this order */
+    uint8_t *p = image + 9;
+    for (int i = 0; i < PLACES; i++, p += 7) {
+        p[0] = s->phase[i];
+        p[1] = s->direction[i];
+        p[2] = s->tries[i];
+        put32(p + 3, s->partner[i]);
+    }
+}
+
+void image_load(State *s, const uint8_t image[IMAGE_BYTES])
+{
+    memcpy(s, image + 1, 8);
+    const uint8_t *p = image + 9;
+    for (int i = 0; i < PLACES; i++, p += 7) {
+        s->phase[i] = p[0];
+        s->direction[i] = p[1];
+        s->tries[i] = p[2];
+        s->partner[i] = get32(p + 3);
+    }
+}
+
+uint8_t image_write(const State *s, uint8_t *image, size_t length)
+{
+    if (length < IMAGE_BYTES)
+        return 10;
+    if (!is_sound(s))
+        return 11;
+    image_store(s, image);
+    return 0;
+}
+
+uint8_t image_read(State *s, const uint8_t *image, size_t length)
+{
+    cold_start(s, 0, 0);
+    if (length == 0)
+        return 1;
+    if (image[0] != IMAGE_KIND)
+        return 2;
+    if (length != IMAGE_BYTES)
+        return 1;
+    image_load(s, image);
+    if (is_sound(s))
+        return 0;
+    cold_start(s, 0, 0);
+    return 11;
+}
+
+/* ---- the run ---- */
+
+static inline void run(State *s, const uint8_t *log, size_t length, size_t budget, RunResult *out,
+                       const bool checked)
+{
+    memset(out, 0, sizeof *out);
+    if (length > LOG_MOST) {
+        out->code = 12;
+        return;
+    }
+    if (!is_sound(s)) {
+        out->code = 11;
+        return;
+    }
+
+    uint32_t total[8] = {0};               /* by the last three bits of the action's number */
+    uint32_t at = 0, read = 0, refused = 0;
+    uint8_t actions[ACTION_BUFFER];
+    uint8_t stop;
+    for (;;) {
+        if (at == length) { stop = 0; break; }
+        if (read == budget) { stop = 1; break; }
+        const uint8_t *const record = log + at;
+        if (!kind_known(*record)) { stop = 3; break; }
+        const uint32_t n = record_length[*record];
+        if (length - at < n) { stop = 2; break; }
+        const StepResult r = checked ? step(s, record, n, actions, sizeof actions)
+                                     : step_known(s, record, actions);
+        at += n;
+        read++;
+        if (r.code != 0)
+            refused++;
+        for (unsigned i = 0; i < r.count; i++)
+            total[actions[ACTION_BYTES * i] & 7]++;
+    }
+
+    out->stop = stop;
+    out->offset = at;
+    out->read = read;
+    out->refused = refused;
+    out->total[0] = total[ACT_REQUEST & 7];
+    out->total[1] = total[ACT_RELEASE & 7];
+    out->total[2] = total[ACT_NO_VERSION & 7];
+    out->total[3] = total[ACT_INITIATE & 7];
+    out->total[4] = total[ACT_TERMINATE & 7];
+    out->total[5] = total[ACT_ESTABLISHED & 7];
+}
+
+void run_checked(State *s, const uint8_t *log, size_t length, size_t budget, RunResult *out)
+{
+    run(s, log, length, budget, out, true);
+}
+
+void run_once(State *s, const uint8_t *log, size_t length, size_t budget, RunResult *out)
+{
+    run(s, log, length, budget, out, false);
+}
