@@ -114,11 +114,17 @@ abbrev pub holeBody : Body
 holeBody = record { ranges = λ s. bit (byte s 1); means = λ s. Hole (flag (byte s 1)) }
 
 -- kind 5: partner, accepting 0/1, cause 0..4
+abbrev pub orderOk : Partner → ℕ → ℕ → Bool
+orderOk p accepting cause = partnerOk p && (bit accepting && ltb cause (length causes))
+
+abbrev pub orderMeans : Partner → ℕ → ℕ → Event
+orderMeans p accepting cause = Order p (flag accepting) (causeOf cause)
+
 abbrev pub orderBody : Body
 orderBody =
     record {
-      ranges = λ s. partnerOk (partnerIn s) && (bit (byte s 5) && ltb (byte s 6) (length causes));
-      means = λ s. Order (partnerIn s) (flag (byte s 5)) (causeOf (byte s 6));
+      ranges = λ s. orderOk (partnerIn s) (byte s 5) (byte s 6);
+      means = λ s. orderMeans (partnerIn s) (byte s 5) (byte s 6);
     }
 
 -- kinds 6, 8, 9, 10: partner

@@ -1,0 +1,67 @@
+-- The tables of causes and kinds outside their entries, and reading by the first byte.
+-- Proves: cause-first, up, body-none, fields-at; read-empty, read-unknown, read-length, read-fields.
+use mathlib.Core.Path.{_≡_, refl, sym, ap, _∙_}
+use mathlib.Core.Bool.{cond}
+use mathlib.Core.List.{List, [], _∷_}
+use Prim.Native.Nat.{ℕ, zero, suc, _≤_}
+use native.Mathlib.Omega.{arith}
+use lib.Dec.{eqb}
+use lib.ListN.{length, List·getD-eq-default}
+use borrow.Author.Tests.{le-ltb, lt-ltb, eq-eqb, ne-eqb}
+use Rattle.record.specs.Records.{byte, causeOf, bodies, noBody, bodyOf, known, lengthOf, fields, reading}
+use Rattle.record.specs.Refusals.{wrongLength, unknownKind}
+use Rattle.record.specs.declared.event.Cause.the-variants.{StartOfMission}
+use Rattle.record.specs.declared.event.Reading.{Reading}
+use Rattle.record.specs.declared.event.Reading.the-variants.{Refused}
+
+-- a byte that is no cause of 1 to 4 stands for the first
+pub cause-first : (b : ℕ) → (b ≡ 1 → ⊥) → (b ≡ 2 → ⊥) → (b ≡ 3 → ⊥) → (b ≡ 4 → ⊥) → causeOf b ≡ StartOfMission
+cause-first zero n₁ n₂ n₃ n₄ = refl
+cause-first (suc zero) n₁ n₂ n₃ n₄ = absurd (n₁ refl)
+cause-first (suc (suc zero)) n₁ n₂ n₃ n₄ = absurd (n₂ refl)
+cause-first (suc (suc (suc zero))) n₁ n₂ n₃ n₄ = absurd (n₃ refl)
+cause-first (suc (suc (suc (suc zero)))) n₁ n₂ n₃ n₄ = absurd (n₄ refl)
+cause-first (suc (suc (suc (suc (suc b))))) n₁ n₂ n₃ n₄ = refl
+
+-- one more number that a number is not
+pub up : {m k : ℕ} → m ≤ k → (k ≡ m → ⊥) → suc m ≤ k
+up {m} {k} h other = omega arith
+
+-- no kind below 1 or above 11
+pub body-none : (kind : ℕ) → (1 ≤ kind → length bodies ≤ kind) → bodyOf kind ≡ noBody
+body-none zero above = refl
+body-none (suc kind) above = List·getD-eq-default bodies noBody (above (omega arith))
+
+-- what the fields of a record of a known kind mean
+pub fields-at : (s : List ℕ) (kind i : ℕ) (r : Reading) → kind ≡ i → r ≡ fields (bodyOf i) s → r ≡ fields (bodyOf kind) s
+fields-at s kind i r e h = h ∙ ap (λ k. fields (bodyOf k) s) (sym e)
+
+-- what `reading` is, by the length that the first byte's kind has
+module _ (s : List ℕ) where
+  pub read-empty : length s ≡ 0 → Refused wrongLength ≡ reading s
+  unfolding reading
+  read-empty = by s
+    where
+      by : (s : List ℕ) → length s ≡ 0 → Refused wrongLength ≡ reading s
+      by [] h = refl
+      by (kind ∷ body) h = absurd (omega arith)
+
+  by-kind : (length s ≡ 0 → ⊥) → reading s ≡ cond (known (byte s 0)) (cond (eqb (length s) (lengthOf (byte s 0))) (fields (bodyOf (byte s 0)) s) (Refused wrongLength)) (Refused unknownKind)
+  unfolding reading
+  by-kind = by s
+    where
+      by : (s : List ℕ) → (length s ≡ 0 → ⊥) → reading s ≡ cond (known (byte s 0)) (cond (eqb (length s) (lengthOf (byte s 0))) (fields (bodyOf (byte s 0)) s) (Refused wrongLength)) (Refused unknownKind)
+      by [] h = absurd (h refl)
+      by (kind ∷ body) h = refl
+
+  module _ (l : ℕ) (some : length s ≡ 0 → ⊥) (of-kind : l ≡ lengthOf (byte s 0)) where
+    pub read-unknown : l ≡ 0 → Refused unknownKind ≡ reading s
+    read-unknown h = sym (by-kind some ∙ simp (le-ltb 0 (lengthOf (byte s 0)) (omega arith)))
+
+    pub read-length : (l ≡ 0 → ⊥) → (length s ≡ l → ⊥) → Refused wrongLength ≡ reading s
+    read-length h other =
+        sym (by-kind some ∙ simp (lt-ltb 0 (lengthOf (byte s 0)) (omega arith), ne-eqb (length s) (lengthOf (byte s 0)) (λ e. other (e ∙ sym of-kind))))
+
+    pub read-fields : (l ≡ 0 → ⊥) → length s ≡ l → fields (bodyOf (byte s 0)) s ≡ reading s
+    read-fields h same =
+        sym (by-kind some ∙ simp (lt-ltb 0 (lengthOf (byte s 0)) (omega arith), eq-eqb (length s) (lengthOf (byte s 0)) (same ∙ of-kind)))

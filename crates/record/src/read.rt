@@ -1,0 +1,259 @@
+// Reading an event record from its bytes.
+ghost use mathlib.Core.Path.{_≡_};
+ghost use mathlib.Core.Bool.{cond, _&&_};
+ghost use lib.ListN.{length, getD};
+ghost use Rattle.record.specs.Partners.{partnerOk};
+ghost use Rattle.record.specs.Records.{lengthOf, partnerIn, causeOf, orderOk, orderMeans, messageOk, messageMeans, fields, bodyOf, levelBody, missionBody, holeBody, orderBody, partnerBody, endAllBody, messageBody, reading};
+ghost use Rattle.record.specs.Refusals.{outOfRange};
+use crate::event::Cause;
+use crate::event::Event;
+use crate::event::PartnerEvent;
+use crate::event::Reading;
+use crate::partner::Partner;
+use crate::refusal::OUT_OF_RANGE;
+use crate::refusal::UNKNOWN_KIND;
+use crate::refusal::WRONG_LENGTH;
+use crate::test::and;
+
+// The kinds of record.
+pub const KIND_LEVEL: u8 = 1;
+
+pub const KIND_MISSION: u8 = 2;
+
+pub const KIND_MODE: u8 = 3;
+
+pub const KIND_HOLE: u8 = 4;
+
+pub const KIND_ORDER: u8 = 5;
+
+pub const KIND_DROP: u8 = 6;
+
+pub const KIND_END_ALL: u8 = 7;
+
+pub const KIND_UP: u8 = 8;
+
+pub const KIND_LOSS: u8 = 9;
+
+pub const KIND_TIMEOUT: u8 = 10;
+
+pub const KIND_MESSAGE: u8 = 11;
+
+// The length of a record by its kind; 0 where no kind has that number.
+const LENGTHS: [u8; 12] = [0, 3, 2, 1, 2, 7, 5, 2, 5, 5, 5, 7];
+
+// The largest level, mission and version, the number of causes, and the messages of a partner.
+const HIGHEST_LEVEL: u8 = 4;
+
+const HIGHEST_MISSION: u8 = 2;
+
+const CAUSES: u8 = 5;
+
+const HIGHEST_VERSION: u8 = 127;
+
+const MESSAGE_VERSION: u8 = 32;
+
+const MESSAGE_CALL: u8 = 38;
+
+const MESSAGE_ENDED: u8 = 39;
+
+fn wide(n: u8) -> usize
+    ensures { λ r. ⌜ r ≡ n ⌝ }
+{
+    n as usize
+}
+
+fn word(n: u8) -> u32
+    ensures { λ r. ⌜ r ≡ n ⌝ }
+{
+    n as u32
+}
+
+// The byte at a place of a slice; 0 past its end.
+pub fn byte_at(s: &[u8], i: usize) -> u8
+    ensures { λ r. ⌜ r ≡ getD (now (s .entry)) i 0 ⌝ }
+{
+    if i < s.len() { s[i] } else { 0 }
+}
+
+// The length of a record of this kind; 0 where no kind has that number.
+pub fn length_of(kind: u8) -> usize
+    ensures { λ r. ⌜ r ≡ lengthOf kind ⌝ }
+{
+    if kind <= KIND_MESSAGE {
+        wide(LENGTHS[wide(kind)])
+    } else {
+        0
+    }
+}
+
+fn within(ok: bool, event: Event) -> Reading
+    ensures { λ r. ⌜ r ≡ cond ok (Reading.Meant event) (Reading.Refused outOfRange) ⌝ }
+{
+    if ok {
+        Reading::Meant(event)
+    } else {
+        Reading::Refused(OUT_OF_RANGE)
+    }
+}
+
+fn partner_in(s: &[u8]) -> Partner
+    ensures { λ r. ⌜ r ≡ partnerIn (now (s .entry)) ⌝ }
+{
+    Partner {
+        kind: byte_at(s, 1),
+        high: byte_at(s, 2),
+        middle: byte_at(s, 3),
+        low: byte_at(s, 4),
+    }
+}
+
+fn level_body(s: &[u8]) -> Reading
+    ensures { λ r. ⌜ r ≡ fields levelBody (now (s .entry)) ⌝ }
+{
+    let level = byte_at(s, 1);
+    let manual = byte_at(s, 2);
+    within(
+        and(level <= HIGHEST_LEVEL, manual <= 1),
+        Event::Level {
+            level: word(level),
+            manual: manual == 1,
+        },
+    )
+}
+
+fn mission_body(s: &[u8]) -> Reading
+    ensures { λ r. ⌜ r ≡ fields missionBody (now (s .entry)) ⌝ }
+{
+    let mission = byte_at(s, 1);
+    within(
+        mission <= HIGHEST_MISSION,
+        Event::Mission {
+            mission: word(mission),
+        },
+    )
+}
+
+fn hole_body(s: &[u8]) -> Reading
+    ensures { λ r. ⌜ r ≡ fields holeBody (now (s .entry)) ⌝ }
+{
+    let entered = byte_at(s, 1);
+    within(
+        entered <= 1,
+        Event::Hole {
+            entered: entered == 1,
+        },
+    )
+}
+
+fn cause_of(b: u8) -> Cause
+    ensures { λ r. ⌜ r ≡ causeOf b ⌝ }
+{
+    match b {
+        1 => Cause::Trackside,
+        2 => Cause::ModeChange,
+        3 => Cause::ManualLevel,
+        4 => Cause::HoleEnd,
+        _ => Cause::StartOfMission,
+    }
+}
+
+fn order_of(partner: Partner, accepting: u8, cause: u8) -> Reading
+    ensures { λ r. ⌜ r ≡ cond (orderOk partner accepting cause) (Reading.Meant (orderMeans partner accepting cause)) (Reading.Refused outOfRange) ⌝ }
+{
+    within(
+        and(partner.in_range(), and(accepting <= 1, cause < CAUSES)),
+        Event::Order {
+            partner,
+            accepting: accepting == 1,
+            cause: cause_of(cause),
+        },
+    )
+}
+
+fn order_body(s: &[u8]) -> Reading
+    ensures { λ r. ⌜ r ≡ fields orderBody (now (s .entry)) ⌝ }
+{
+    order_of(partner_in(s), byte_at(s, 5), byte_at(s, 6))
+}
+
+fn partner_body(s: &[u8], event: PartnerEvent) -> Reading
+    ensures { λ r. ⌜ r ≡ fields (partnerBody event) (now (s .entry)) ⌝ }
+{
+    let partner = partner_in(s);
+    within(partner.in_range(), Event::Named { partner, event })
+}
+
+fn end_all_body(s: &[u8]) -> Reading
+    ensures { λ r. ⌜ r ≡ fields endAllBody (now (s .entry)) ⌝ }
+{
+    within(byte_at(s, 1) <= 1, Event::EndAll)
+}
+
+fn message_of(partner: Partner, number: u8, version: u8) -> Reading
+    ensures { λ r. ⌜ r ≡ cond (partnerOk partner && messageOk number version) (Reading.Meant (messageMeans number version partner)) (Reading.Refused outOfRange) ⌝ }
+{
+    let known = partner.in_range();
+    if number == MESSAGE_VERSION {
+        return within(
+            and(known, version <= HIGHEST_VERSION),
+            Event::Named {
+                partner,
+                event: PartnerEvent::Version(version),
+            },
+        );
+    }
+    if number == MESSAGE_CALL {
+        return within(and(known, version == 0), Event::Call { partner });
+    }
+    within(
+        and(known, and(number == MESSAGE_ENDED, version == 0)),
+        Event::Named {
+            partner,
+            event: PartnerEvent::Ended,
+        },
+    )
+}
+
+fn message_body(s: &[u8]) -> Reading
+    ensures { λ r. ⌜ r ≡ fields messageBody (now (s .entry)) ⌝ }
+{
+    message_of(partner_in(s), byte_at(s, 5), byte_at(s, 6))
+}
+
+// What the fields of a record of this kind mean; refusal 3 where one is outside its range, or where no kind has that number.
+pub fn fields_of(kind: u8, s: &[u8]) -> Reading
+    ensures { λ r. ⌜ r ≡ fields (bodyOf kind) (now (s .entry)) ⌝ }
+{
+    match kind {
+        KIND_LEVEL => level_body(s),
+        KIND_MISSION => mission_body(s),
+        KIND_MODE => Reading::Meant(Event::Mode),
+        KIND_HOLE => hole_body(s),
+        KIND_ORDER => order_body(s),
+        KIND_DROP => partner_body(s, PartnerEvent::Drop),
+        KIND_END_ALL => end_all_body(s),
+        KIND_UP => partner_body(s, PartnerEvent::Up),
+        KIND_LOSS => partner_body(s, PartnerEvent::Loss),
+        KIND_TIMEOUT => partner_body(s, PartnerEvent::Timeout),
+        KIND_MESSAGE => message_body(s),
+        _ => Reading::Refused(OUT_OF_RANGE),
+    }
+}
+
+// Reads a record: the event that it means, or refusal 1, 2 or 3, in the order 1 (empty), 2, 1 (length), 3.
+pub fn read(s: &[u8]) -> Reading
+    ensures { λ r. ⌜ r ≡ reading (now (s .entry)) ⌝ }
+{
+    if s.len() == 0 {
+        return Reading::Refused(WRONG_LENGTH);
+    }
+    let kind = s[0];
+    let length = length_of(kind);
+    if length == 0 {
+        return Reading::Refused(UNKNOWN_KIND);
+    }
+    if s.len() != length {
+        return Reading::Refused(WRONG_LENGTH);
+    }
+    fields_of(kind, s)
+}
