@@ -1,5 +1,6 @@
 -- Document 01, "Rules of one step", the part on one place: the phase table, closing, judging a version.
--- Defines: the six actions; Cell and table; closing, judged, again, play; turn; numbers, placeAfter; due, shut, shutting.
+-- Defines: the six actions; Cell, table, cell, legend, cellOf; closing, judged, again, play, turn; takes, numbers; placeAfter,
+-- placeTurn; due, shutTurn.
 use Prim.Native.Nat.{ℕ, _+_, _/_}
 use mathlib.Core.Bool.{Bool, true, false, cond, _&&_}
 use mathlib.Core.List.{List, [], _∷_}
@@ -79,6 +80,24 @@ column Ended = 5
 abbrev pub cell : Phase → PartnerEvent → Cell
 cell ph e = getD (table ph) (column e) refuse
 
+-- the ten cells that the table has, by the numbers that the code gives them
+abbrev pub legend : List Cell
+legend =
+    refuse
+    ∷ close
+    ∷ free
+    ∷ turnTo 155 (Contacting 1)
+    ∷ turnTo 21 (Lost 1)
+    ∷ become Open
+    ∷ retry 21
+    ∷ retry 155
+    ∷ retry 156
+    ∷ judge
+    ∷ []
+
+abbrev pub cellOf : ℕ → Cell
+cellOf choice = getD legend choice refuse
+
 -- the first try in a phase
 abbrev pub firstTry : ℕ
 firstTry = 1
@@ -103,13 +122,17 @@ supported l version = leb (l .lowest) (xOf version) && leb (xOf version) (l .hig
 abbrev pub judged : Limits → ℕ → Turn
 judged l version = cond (supported l version) (Sends established Open) (SendsBoth incompatible terminate (Ending firstTry))
 
+-- the same phase with other tries; Open has none
+abbrev pub withTries : Phase → ℕ → Phase
+withTries (Connecting t) u = Connecting u
+withTries (Contacting t) u = Contacting u
+withTries Open u = Open
+withTries (Lost t) u = Lost u
+withTries (Ending t) u = Ending u
+
 -- one more try in the same phase
 abbrev pub oneMore : Phase → Phase
-oneMore (Connecting t) = Connecting (t + 1)
-oneMore (Contacting t) = Contacting (t + 1)
-oneMore Open = Open
-oneMore (Lost t) = Lost (t + 1)
-oneMore (Ending t) = Ending (t + 1)
+oneMore ph = withTries ph (tries ph + 1)
 
 -- "Timeout gives the action shown and one more try while tries are 1 or 2; at 3 it gives 22 and frees the place": while fewer than n were used
 abbrev pub again : ℕ → ℕ → Phase → Turn

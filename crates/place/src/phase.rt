@@ -1,3 +1,17 @@
+// The phases of a held place, and what each makes of an event.
+ghost use mathlib.Core.Path.{_≡_};
+ghost use Rattle.place.specs.Places.{phaseNumber, tries, tryLimit, phaseOk, incomingPhase};
+ghost use Rattle.place.specs.Table.{cell, cellOf, closing, judged, withTries, again, play, turn, versionOf, inSession, notEnding};
+use crate::turn::ESTABLISHED;
+use crate::turn::INCOMPATIBLE;
+use crate::turn::INITIATE;
+use crate::turn::Limits;
+use crate::turn::REQUEST;
+use crate::turn::TERMINATE;
+use crate::turn::Turn;
+use record::event::PartnerEvent;
+use record::test::and;
+
 // The phase of a held place, with the tries used; an open one has none.
 pub enum Phase {
     Connecting(u8),
@@ -5,4 +19,274 @@ pub enum Phase {
     Open,
     Lost(u8),
     Ending(u8),
+}
+
+// The limit of tries, and the first.
+pub const TRY_LIMIT: u8 = 3;
+
+pub const FIRST_TRY: u8 = 1;
+
+// The cells of the phase table.
+const REFUSE: u8 = 0;
+
+const CLOSE: u8 = 1;
+
+const FREE: u8 = 2;
+
+const CONTACT: u8 = 3;
+
+const LOSE: u8 = 4;
+
+const REOPEN: u8 = 5;
+
+const REQUEST_AGAIN: u8 = 6;
+
+const INITIATE_AGAIN: u8 = 7;
+
+const TERMINATE_AGAIN: u8 = 8;
+
+const JUDGE: u8 = 9;
+
+// Versions of one X.
+const VERSIONS_OF_X: u8 = 16;
+
+fn word(n: u8) -> u32
+    ensures { λ r. ⌜ r ≡ n ⌝ }
+{
+    n as u32
+}
+
+fn version_of(event: PartnerEvent) -> u8
+    ensures { λ r. ⌜ r ≡ versionOf event ⌝ }
+{
+    match event {
+        PartnerEvent::Drop => 0,
+        PartnerEvent::Up => 0,
+        PartnerEvent::Loss => 0,
+        PartnerEvent::Timeout => 0,
+        PartnerEvent::Version(v) => v,
+        PartnerEvent::Ended => 0,
+    }
+}
+
+// Judges a version by its X.
+fn judge(version: u8, limits: Limits) -> Turn
+    ensures { λ r. ⌜ r ≡ judged limits version ⌝ }
+{
+    let x = word(version / VERSIONS_OF_X);
+    if and(limits.lowest <= x, x <= limits.highest) {
+        Turn::Sends {
+            number: ESTABLISHED,
+            phase: Phase::Open,
+        }
+    } else {
+        Turn::SendsBoth {
+            first: INCOMPATIBLE,
+            second: TERMINATE,
+            phase: Phase::Ending(FIRST_TRY),
+        }
+    }
+}
+
+impl Phase {
+    // Its number, 1 to 5.
+    pub fn number(self) -> u8
+        ensures { λ r. ⌜ r ≡ phaseNumber self ⌝ }
+    {
+        match self {
+            Phase::Connecting(_) => 1,
+            Phase::Contacting(_) => 2,
+            Phase::Open => 3,
+            Phase::Lost(_) => 4,
+            Phase::Ending(_) => 5,
+        }
+    }
+
+    // The tries used; 0 in Open.
+    pub fn tries(self) -> u8
+        ensures { λ r. ⌜ r ≡ tries self ⌝ }
+    {
+        match self {
+            Phase::Connecting(t) => t,
+            Phase::Contacting(t) => t,
+            Phase::Open => 0,
+            Phase::Lost(t) => t,
+            Phase::Ending(t) => t,
+        }
+    }
+
+    // The same phase with other tries.
+    fn with_tries(self, t: u8) -> Phase
+        ensures { λ r. ⌜ r ≡ withTries self t ⌝ }
+    {
+        match self {
+            Phase::Connecting(_) => Phase::Connecting(t),
+            Phase::Contacting(_) => Phase::Contacting(t),
+            Phase::Open => Phase::Open,
+            Phase::Lost(_) => Phase::Lost(t),
+            Phase::Ending(_) => Phase::Ending(t),
+        }
+    }
+
+    // Whether an incoming place may have it.
+    pub fn fits_incoming(self) -> bool
+        ensures { λ r. ⌜ r ≡ incomingPhase self ⌝ }
+    {
+        match self {
+            Phase::Connecting(_) => false,
+            Phase::Contacting(_) => false,
+            Phase::Open => true,
+            Phase::Lost(_) => true,
+            Phase::Ending(_) => true,
+        }
+    }
+
+    // Whether it is a session, open or lost.
+    pub fn in_session(self) -> bool
+        ensures { λ r. ⌜ r ≡ inSession self ⌝ }
+    {
+        match self {
+            Phase::Connecting(_) => false,
+            Phase::Contacting(_) => false,
+            Phase::Open => true,
+            Phase::Lost(_) => true,
+            Phase::Ending(_) => false,
+        }
+    }
+
+    // Whether an end all closes it.
+    pub fn not_ending(self) -> bool
+        ensures { λ r. ⌜ r ≡ notEnding self ⌝ }
+    {
+        match self {
+            Phase::Connecting(_) => true,
+            Phase::Contacting(_) => true,
+            Phase::Open => true,
+            Phase::Lost(_) => true,
+            Phase::Ending(_) => false,
+        }
+    }
+
+    // Whether the tries used are in their range.
+    pub fn in_range(self) -> bool
+        ensures { λ r. ⌜ r ≡ phaseOk tryLimit self ⌝ }
+    {
+        match self {
+            Phase::Connecting(t) => and(1 <= t, t <= TRY_LIMIT),
+            Phase::Contacting(t) => and(1 <= t, t <= TRY_LIMIT),
+            Phase::Open => true,
+            Phase::Lost(t) => and(1 <= t, t <= TRY_LIMIT),
+            Phase::Ending(t) => and(1 <= t, t <= TRY_LIMIT),
+        }
+    }
+
+    // Closing: a release, or from Open a termination; an ending place is not closed.
+    pub fn close(self) -> Turn
+        ensures { λ r. ⌜ r ≡ closing self ⌝ }
+    {
+        match self {
+            Phase::Connecting(_) => Turn::Released,
+            Phase::Contacting(_) => Turn::Released,
+            Phase::Open => Turn::Sends {
+                number: TERMINATE,
+                phase: Phase::Ending(FIRST_TRY),
+            },
+            Phase::Lost(_) => Turn::Released,
+            Phase::Ending(_) => Turn::Refused,
+        }
+    }
+
+    // One more try while fewer than the limit were used; else a release.
+    fn retry(self, number: u8) -> Turn
+        ensures { λ r. ⌜ r ≡ again tryLimit number self ⌝ }
+    {
+        let used = self.tries();
+        if used < TRY_LIMIT {
+            Turn::Sends {
+                number,
+                phase: self.with_tries(used + 1),
+            }
+        } else {
+            Turn::Released
+        }
+    }
+
+    // The cell of the phase table at this phase and an event.
+    fn choice(self, event: PartnerEvent) -> u8
+        ensures { λ r. ⌜ cellOf r ≡ cell self event ⌝ }
+    {
+        match self {
+            Phase::Connecting(_) => match event {
+                PartnerEvent::Drop => CLOSE,
+                PartnerEvent::Up => CONTACT,
+                PartnerEvent::Loss => REFUSE,
+                PartnerEvent::Timeout => REQUEST_AGAIN,
+                PartnerEvent::Version(_) => REFUSE,
+                PartnerEvent::Ended => REFUSE,
+            },
+            Phase::Contacting(_) => match event {
+                PartnerEvent::Drop => CLOSE,
+                PartnerEvent::Up => REFUSE,
+                PartnerEvent::Loss => FREE,
+                PartnerEvent::Timeout => INITIATE_AGAIN,
+                PartnerEvent::Version(_) => JUDGE,
+                PartnerEvent::Ended => REFUSE,
+            },
+            Phase::Open => match event {
+                PartnerEvent::Drop => CLOSE,
+                PartnerEvent::Up => REFUSE,
+                PartnerEvent::Loss => LOSE,
+                PartnerEvent::Timeout => REFUSE,
+                PartnerEvent::Version(_) => REFUSE,
+                PartnerEvent::Ended => REFUSE,
+            },
+            Phase::Lost(_) => match event {
+                PartnerEvent::Drop => CLOSE,
+                PartnerEvent::Up => REOPEN,
+                PartnerEvent::Loss => REFUSE,
+                PartnerEvent::Timeout => REQUEST_AGAIN,
+                PartnerEvent::Version(_) => REFUSE,
+                PartnerEvent::Ended => REFUSE,
+            },
+            Phase::Ending(_) => match event {
+                PartnerEvent::Drop => REFUSE,
+                PartnerEvent::Up => REFUSE,
+                PartnerEvent::Loss => FREE,
+                PartnerEvent::Timeout => TERMINATE_AGAIN,
+                PartnerEvent::Version(_) => REFUSE,
+                PartnerEvent::Ended => FREE,
+            },
+        }
+    }
+
+    // What a cell makes of this phase.
+    fn play(self, choice: u8, version: u8, limits: Limits) -> Turn
+        ensures { λ r. ⌜ r ≡ play tryLimit limits self version (cellOf choice) ⌝ }
+    {
+        match choice {
+            CLOSE => self.close(),
+            FREE => Turn::Released,
+            CONTACT => Turn::Sends {
+                number: INITIATE,
+                phase: Phase::Contacting(FIRST_TRY),
+            },
+            LOSE => Turn::Sends {
+                number: REQUEST,
+                phase: Phase::Lost(FIRST_TRY),
+            },
+            REOPEN => Turn::Becomes(Phase::Open),
+            REQUEST_AGAIN => self.retry(REQUEST),
+            INITIATE_AGAIN => self.retry(INITIATE),
+            TERMINATE_AGAIN => self.retry(TERMINATE),
+            JUDGE => judge(version, limits),
+            _ => Turn::Refused,
+        }
+    }
+
+    // What an event makes of this phase.
+    pub fn turn(self, event: PartnerEvent, limits: Limits) -> Turn
+        ensures { λ r. ⌜ r ≡ turn tryLimit limits self event ⌝ }
+    {
+        self.play(self.choice(event), version_of(event), limits)
+    }
 }

@@ -1,4 +1,18 @@
+// Turns of a place, and the actions that they send.
 use crate::phase::Phase;
+
+// The six actions.
+pub const REQUEST: u8 = 21;
+
+pub const RELEASE: u8 = 22;
+
+pub const INCOMPATIBLE: u8 = 154;
+
+pub const INITIATE: u8 = 155;
+
+pub const TERMINATE: u8 = 156;
+
+pub const ESTABLISHED: u8 = 159;
 
 // The lowest and the highest supported version X.
 pub struct Limits {
