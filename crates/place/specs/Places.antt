@@ -1,5 +1,5 @@
 -- Document 01, "What the box remembers", the part on one place.
--- Defines: phaseNumber, tries, directionNumber; tryLimit; vacant, seat, isFree, holds; placeOk.
+-- Defines: phaseNumber, tries, directionNumber; tryLimit; vacant, seat, isFree, partnerOf, holds; placeOk.
 use Prim.Native.Nat.{ℕ}
 use mathlib.Core.Bool.{Bool, true, false, _&&_}
 use lib.Dec.{leb}
@@ -53,6 +53,14 @@ isFreeHolding (Held d ph p) = false
 -- the place is free
 abbrev pub isFree : Place → Bool
 isFree place = isFreeHolding (place .holding)
+
+-- the partner of a place; all zeros where it is free
+abbrev pub partnerIn : Holding → Partner
+partnerIn Free = record { kind = 0; high = 0; middle = 0; low = 0 }
+partnerIn (Held d ph p) = p
+
+abbrev pub partnerOf : Place → Partner
+partnerOf place = partnerIn (place .holding)
 
 abbrev pub holdsIn : Partner → Holding → Bool
 holdsIn p Free = false

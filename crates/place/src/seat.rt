@@ -1,6 +1,6 @@
 // Places: free, or a partner with its direction and phase.
 ghost use mathlib.Core.Path.{_≡_};
-ghost use Rattle.place.specs.Places.{directionNumber, tryLimit, vacant, seat, isFree, holds, directionOk, placeOk};
+ghost use Rattle.place.specs.Places.{directionNumber, tryLimit, vacant, seat, isFree, partnerOf, holds, directionOk, placeOk};
 ghost use Rattle.place.specs.Table.{heldAfter, placeAfter, placeTurn, due, shutTurn};
 use crate::phase::Phase;
 use crate::turn::Due;
@@ -101,6 +101,26 @@ impl Place {
                 phase: _,
                 partner: _,
             } => false,
+        }
+    }
+
+    // The partner that it holds; all zeros where it is free.
+    pub fn partner(self) -> Partner
+        ensures { λ r. ⌜ r ≡ partnerOf self ⌝ }
+    {
+        let holding = self.holding;
+        match holding {
+            Holding::Free => Partner {
+                kind: 0,
+                high: 0,
+                middle: 0,
+                low: 0,
+            },
+            Holding::Held {
+                direction: _,
+                phase: _,
+                partner,
+            } => partner,
         }
     }
 

@@ -1,4 +1,6 @@
 // Turns of a place, and the actions that they send.
+ghost use mathlib.Core.Path.{_≡_};
+ghost use Rattle.place.specs.Table.{takes};
 use crate::phase::Phase;
 
 // The six actions.
@@ -34,4 +36,26 @@ pub enum Due {
     Every,
     Sessions,
     Nothing,
+}
+
+impl Turn {
+    // Whether the event was taken.
+    pub fn is_taken(self) -> bool
+        ensures { λ r. ⌜ r ≡ takes self ⌝ }
+    {
+        match self {
+            Turn::Refused => false,
+            Turn::Released => true,
+            Turn::Becomes(_) => true,
+            Turn::Sends {
+                number: _,
+                phase: _,
+            } => true,
+            Turn::SendsBoth {
+                first: _,
+                second: _,
+                phase: _,
+            } => true,
+        }
+    }
 }

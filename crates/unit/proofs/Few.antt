@@ -32,7 +32,8 @@ use Rattle.place.specs.declared.turn.Due.the-variants.{Every}
 use Rattle.place.proofs.Turns.{turn-few}
 use Rattle.unit.specs.States.{placeCount, seek, sound}
 use Rattle.unit.specs.Steps.{Outcome, refused, done, act, actionsIn, withMission, holeTaken, inForce, displaced, shutting, sweep, orderedAt, calledAt, namedAt, step}
-use Rattle.unit.specs.OnRecords.{actionRoom, mostActions, onReading, onRecord}
+use Rattle.unit.specs.OnRecords.{actionRoom, onReading, onRecord}
+use Rattle.unit.specs.Forms.{mostActions}
 use Rattle.unit.specs.declared.state.State.{State}
 use Rattle.unit.specs.declared.state.Found.{Found}
 use Rattle.unit.specs.declared.state.Found.the-variants.{At, Vacant, Full}

@@ -5,3 +5,5 @@ pub mod Facts
 pub mod Sound
 pub mod Kept
 pub mod Few
+pub mod Starts
+pub mod Tested

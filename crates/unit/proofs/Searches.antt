@@ -1,14 +1,17 @@
 -- What a search finds, for any test and any number of places.
--- Proves: first-passes, first-none, none-first, getD-shut; seek-ok.
-use mathlib.Core.Path.{_≡_, refl, ap}
-use mathlib.Core.Bool.{Bool, true, cond}
+-- Proves: first-passes, first-none, none-first; seek-ok; searched-more, searched-found, searched-none;
+-- seek-at, seek-vacant, seek-full.
+use mathlib.Core.Path.{_≡_, refl, ap, _∙_}
+use mathlib.Core.Bool.{Bool, true, false, cond}
 use mathlib.Core.List.{List, [], _∷_}
-use Prim.Native.Nat.{suc, _+_, _≤_, _<_}
+use Prim.Native.Nat.{ℕ, suc, _+_, _≤_, _<_}
 use native.Mathlib.Nat.{le-of-suc-le-suc}
 use native.Mathlib.Omega.{arith}
+use native.Mathlib.Numerals.{add-one}
 use lib.Dec.{ltb}
-use lib.ListN.{length, getD}
-use borrow.Author.Tests.{ltb-true, ltb-false}
+use lib.ListN.{length, getD, drop, drop-of-length-le}
+use lib.Seq.{drop-cons}
+use borrow.Author.Tests.{ltb-true, ltb-false, lt-ltb, le-ltb}
 use Rattle.record.specs.declared.partner.Partner.{Partner}
 use Rattle.record.proofs.Tests.{cond-case}
 use Rattle.place.specs.Places.{vacant, isFree, holds}
@@ -74,3 +77,49 @@ seek-ok p ps =
     let below = ltb-true free (length ps) found in
     (below, first-passes isFree ps below, absent))
     (λ full. (first-none isFree ps (ltb-false free (length ps) full), absent)))
+
+-- a search that has passed the places from one number up to another without finding any
+abbrev pub SearchedTo : (Place → Bool) → List Place → ℕ → ℕ → Type 0
+SearchedTo test ps from i = from + first test (drop from ps) ≡ i + first test (drop i ps)
+
+first-drop : (test : Place → Bool) (ps : List Place) (i : ℕ) → i < length ps → first test (drop i ps) ≡ cond (test (getD ps i vacant)) 0 (suc (first test (drop (suc i) ps)))
+unfolding first
+first-drop test ps i below = rw (drop-cons ps i vacant below)
+
+module _ (test : Place → Bool) (ps : List Place) (from i : ℕ) (so-far : SearchedTo test ps from i) where
+  pub searched-more : i < length ps → test (getD ps i vacant) ≡ false → SearchedTo test ps from (i + 1)
+  searched-more below fails =
+      let next : first test (drop i ps) ≡ suc (first test (drop (suc i) ps)) =
+      first-drop test ps i below ∙ ap (λ b. cond b 0 (suc (first test (drop (suc i) ps)))) fails in
+      rw add-one (omega arith)
+
+  pub searched-found : i < length ps → test (getD ps i vacant) ≡ true → i ≡ from + first test (drop from ps)
+  searched-found below passes =
+      let here : first test (drop i ps) ≡ 0 =
+      first-drop test ps i below ∙ ap (λ b. cond b 0 (suc (first test (drop (suc i) ps)))) passes in
+      omega arith
+
+  pub searched-none : length ps ≤ i → i ≡ from + first test (drop from ps)
+  unfolding first
+  searched-none above =
+      let over : first test (drop i ps) ≡ 0 = ap (first test) (drop-of-length-le ps above) in
+      omega arith
+
+-- the answer of the search for a partner, by what its two searches found
+module _ (p : Partner) (ps : List Place) (held : ℕ) (from-start : held ≡ 0 + first (holds p) ps) where
+  pub seek-at : held < length ps → At held ≡ seek p ps
+  unfolding seek
+  seek-at below =
+      let same : held ≡ first (holds p) ps = omega arith in
+      rw (← same) (simp (lt-ltb held (length ps) below))
+
+  module _ (absent : length ps ≤ held) (free : ℕ) (lowest : free ≡ first isFree ps) where
+    pub seek-vacant : free < length ps → Vacant free ≡ seek p ps
+    unfolding seek
+    seek-vacant below =
+        simp (le-ltb (first (holds p) ps) (length ps) (omega arith), ← lowest, lt-ltb free (length ps) below)
+
+    pub seek-full : length ps ≤ free → Full ≡ seek p ps
+    unfolding seek
+    seek-full above =
+        simp (le-ltb (first (holds p) ps) (length ps) (omega arith), le-ltb (first isFree ps) (length ps) (omega arith))

@@ -1,4 +1,5 @@
 pub mod States
 pub mod Steps
 pub mod OnRecords
+pub mod Forms
 pub mod Examples

@@ -1,5 +1,5 @@
 -- Document 01, "Rules of one step" on bytes: the step on a record, and the bytes of its actions.
--- Defines: actionRoom, actionSize; onReading, onRecord, trace; actionBytes, written; listed, packed.
+-- Defines: actionRoom, actionSize; onReading, onRecord, trace; actionBytes, written.
 use Prim.Native.Nat.{ℕ, _*_}
 use mathlib.Core.Bool.{cond}
 use mathlib.Core.List.{List, [], _∷_, _++_}
@@ -13,8 +13,6 @@ use Rattle.unit.specs.States.{sound}
 use Rattle.unit.specs.Steps.{Outcome, refused, step}
 use Rattle.unit.specs.declared.state.State.{State}
 use Rattle.unit.specs.declared.answer.Action.{Action}
-use Rattle.unit.specs.declared.answer.Actions.{Actions}
-use Rattle.unit.specs.declared.answer.Answer.{Answer}
 
 -- "action buffer under 20 bytes"
 abbrev pub actionRoom : ℕ
@@ -52,19 +50,3 @@ actionBytes (a ∷ acts) = bytesOf a ++ actionBytes acts
 -- "An accepted call writes only its actions ..; later bytes stay"
 unfoldable pub written : List Action → List ℕ → List ℕ
 written acts buffer = actionBytes acts ++ drop (actionSize * length acts) buffer
-
--- no action: what stands in the code's array after the last one
-abbrev pub noAction : Action
-noAction = record { number = 0; partner = record { kind = 0; high = 0; middle = 0; low = 0 } }
-
--- the most actions of one step
-abbrev pub mostActions : ℕ
-mostActions = 4
-
--- the actions as the code holds them
-unfoldable pub listed : List Action → Actions
-listed acts = record { items = take mostActions (acts ++ replicate mostActions noAction); count = length acts }
-
--- the outcome as the code holds it
-unfoldable pub packed : Outcome → Answer
-packed o = record { code = o .code; state = o .state; actions = listed (o .actions) }

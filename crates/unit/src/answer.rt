@@ -1,5 +1,17 @@
+// Answers of the box, and the actions of one step.
+ghost use mathlib.Core.Path.{_≡_};
+ghost use mathlib.Core.List.{[]};
+ghost use Rattle.place.specs.Table.{numbers};
+ghost use Rattle.unit.specs.Steps.{refused, done};
+ghost use Rattle.unit.specs.Forms.{listed, pushed, pushAll, packed};
 use crate::state::State;
+use place::turn::RELEASE;
+use place::turn::Turn;
 use record::partner::Partner;
+use record::refusal::ACCEPTED;
+
+// The most actions of one step.
+pub const MOST_ACTIONS: usize = 4;
 
 // One action: its number and the partner that it is for.
 pub struct Action {
@@ -20,8 +32,91 @@ pub struct Answer {
     pub actions: Actions,
 }
 
+// What a step on bytes answers: 0 or the number of the refusal, the next state, and how many actions were written.
+pub struct Stepped {
+    pub code: u8,
+    pub state: State,
+    pub count: usize,
+}
+
 // What a cold start or a reading of an image answers: 0 or the number of the refusal, and the state.
 pub struct Started {
     pub code: u8,
     pub state: State,
+}
+
+impl Actions {
+    // No action.
+    pub fn none() -> Actions
+        ensures { λ r. ⌜ r ≡ listed [] ⌝ }
+    {
+        let partner = Partner {
+            kind: 0,
+            high: 0,
+            middle: 0,
+            low: 0,
+        };
+        Actions {
+            items: [Action { number: 0, partner }; 4],
+            count: 0,
+        }
+    }
+
+    // One more action, after the others; none where four stand already.
+    pub fn push(self, partner: Partner, number: u8) -> Actions
+        ensures { λ r. ⌜ r ≡ pushed self partner number ⌝ }
+    {
+        let count = self.count;
+        if count < MOST_ACTIONS {
+            let mut items = self.items;
+            items[count] = Action { number, partner };
+            Actions {
+                items,
+                count: count + 1,
+            }
+        } else {
+            self
+        }
+    }
+
+    // The actions of a turn, after the others.
+    pub fn send(self, partner: Partner, turn: Turn) -> Actions
+        ensures { λ r. ⌜ r ≡ pushAll self partner (numbers turn) ⌝ }
+    {
+        match turn {
+            Turn::Refused => self,
+            Turn::Released => self.push(partner, RELEASE),
+            Turn::Becomes(_) => self,
+            Turn::Sends { number, phase: _ } => self.push(partner, number),
+            Turn::SendsBoth {
+                first,
+                second,
+                phase: _,
+            } => { self.push(partner, first).push(partner, second) }
+        }
+    }
+}
+
+impl Answer {
+    // An accepted step without an action.
+    pub fn quiet(state: State) -> Answer
+        ensures { λ r. ⌜ r ≡ packed (done state []) ⌝ }
+    {
+        Answer {
+            code: ACCEPTED,
+            state,
+            actions: Actions::none(),
+        }
+    }
+
+    // A refusal: the state as given, no action.
+    pub fn refused(code: u8, state: State) -> Answer
+        ensures { λ r. ⌜ r ≡ packed (refused code state) ⌝ }
+    {
+        Answer {
+            code,
+            state,
+            actions: Actions::none(),
+        }
+    }
 }

@@ -1,3 +1,5 @@
 // The box: its state, and one step of it.
 pub mod answer;
+pub mod order;
 pub mod state;
+pub mod step;

@@ -1,0 +1,76 @@
+-- Soundness of the places as the code tests it, from the lowest up.
+-- Proves: absent-by; ok-more, ok-end, ok-bad; sound-four.
+use mathlib.Core.Path.{_≡_, refl, sym, ap, ap₂, _∙_}
+use mathlib.Core.Bool.{Bool, true, false, _&&_}
+use mathlib.Core.List.{List}
+use Prim.Native.Nat.{ℕ, _+_, _-_, _≤_, _<_}
+use native.Mathlib.Numerals.{add-one}
+use native.Mathlib.Omega.{arith}
+use lib.Dec.{leb}
+use lib.ListN.{length, getD, drop, length-drop, drop-of-length-le}
+use lib.Seq.{drop-cons}
+use borrow.Author.Tests.{leb-true, leb-false, le-leb, eq-eqb}
+use Rattle.record.specs.declared.partner.Partner.{Partner}
+use Rattle.record.proofs.Tests.{true-false}
+use Rattle.place.specs.Places.{vacant, holds, placeOk}
+use Rattle.place.specs.declared.phase.Phase.{Phase}
+use Rattle.place.specs.declared.seat.Direction.{Direction}
+use Rattle.place.specs.declared.seat.Holding.{Holding}
+use Rattle.place.specs.declared.seat.Holding.the-variants.{Held}
+use Rattle.place.specs.declared.seat.Place.{Place}
+use Rattle.unit.specs.States.{placeCount, first, limitsOk, trainOk, marksOk, absentFrom, placesOk, sound}
+use Rattle.unit.specs.declared.state.State.{State}
+
+-- two orders that say the same are tested alike
+leb-same : (a b c d : ℕ) → (a ≤ b → c ≤ d) → (c ≤ d → a ≤ b) → leb a b ≡ leb c d
+leb-same a b c d to from = by (leb a b) refl (leb c d) refl
+  where
+    by : (x : Bool) → leb a b ≡ x → (y : Bool) → leb c d ≡ y → leb a b ≡ leb c d
+    by true e true g = e ∙ sym g
+    by true e false g = true-false (leb c d) (le-leb c d (to (leb-true a b e))) g
+    by false e true g = true-false (leb a b) (le-leb a b (from (leb-true c d g))) e
+    by false e false g = e ∙ sym g
+
+-- a search from the next place on that comes to the end found none
+pub absent-by : (ps : List Place) (i : ℕ) (k : Holding) (d : Direction) (ph : Phase) (p : Partner) (r : ℕ) → k ≡ Held d ph p → r ≡ i + 1 + first (holds p) (drop (i + 1) ps) → i < length ps → leb (length ps) r ≡ absentFrom (drop (i + 1) ps) k
+absent-by ps i k d ph p r held found below =
+    leb-same (length ps) r (length (drop (i + 1) ps)) (first (holds p) (drop (i + 1) ps)) (λ h. simp length-drop (omega arith))
+    (λ h.
+    let shorter : length ps - (i + 1) ≤ first (holds p) (drop (i + 1) ps) = simp length-drop at h in
+    omega arith)
+    ∙ sym (ap (absentFrom (drop (i + 1) ps)) held)
+
+module _ (n : ℕ) (ps : List Place) (i : ℕ) where
+  ok-drop : i < length ps → placesOk n (drop i ps) ≡ (placeOk n (getD ps i vacant) && (absentFrom (drop (i + 1) ps) (getD ps i vacant .holding) && placesOk n (drop (i + 1) ps)))
+  unfolding placesOk
+  ok-drop below = rw (add-one, drop-cons ps i vacant below)
+
+  module _ (so-far : placesOk n ps ≡ placesOk n (drop i ps)) where
+    -- nothing left to test
+    pub ok-end : length ps ≤ i → true ≡ placesOk n ps
+    unfolding placesOk
+    ok-end above = sym (so-far ∙ ap (placesOk n) (drop-of-length-le ps above))
+
+    module _ (b good absent : Bool) (test : b ≡ (good && absent)) (by-itself : good ≡ placeOk n (getD ps i vacant)) (alone : absent ≡ absentFrom (drop (i + 1) ps) (getD ps i vacant .holding)) (below : i < length ps) where
+      tested : placesOk n ps ≡ (good && (absent && placesOk n (drop (i + 1) ps)))
+      tested =
+          so-far ∙ ok-drop below ∙ sym (ap₂ (λ x y. x && (y && placesOk n (drop (i + 1) ps))) by-itself alone)
+
+      split : (x y z : Bool) → (x && (y && z)) ≡ ((x && y) && z)
+      split true y z = refl
+      split false y z = refl
+
+      -- a place that passes leaves the rest to be tested
+      pub ok-more : b ≡ true → placesOk n ps ≡ placesOk n (drop (i + 1) ps)
+      ok-more passes =
+          tested ∙ split good absent _ ∙ ap (λ x. x && placesOk n (drop (i + 1) ps)) (sym test ∙ passes)
+
+      -- one that fails settles it
+      pub ok-bad : b ≡ false → false ≡ placesOk n ps
+      ok-bad fails = sym (tested ∙ split good absent _ ∙ ap (λ x. x && placesOk n (drop (i + 1) ps)) (sym test ∙ fails))
+
+-- a state with four places is sound where its parts are
+pub sound-four : (n : ℕ) (s : State) → length (s .places) ≡ placeCount → (limitsOk (s .limits) && (trainOk (s .train) && (marksOk (s .marks) && placesOk n (s .places)))) ≡ sound n s
+unfolding sound
+sound-four n s four =
+    sym (ap (λ b. limitsOk (s .limits) && (trainOk (s .train) && (marksOk (s .marks) && (b && placesOk n (s .places))))) (eq-eqb (length (s .places)) placeCount four))

@@ -1,0 +1,49 @@
+-- The places passed do not hold the partner.
+use borrow.Author.Needs.{needs}
+use Prim.Native.Nat.{_≤_, _-_}
+use mathlib.Core.Path.{_≡_, refl, sym, _∙_}
+use native.Mathlib.Omega.{arith}
+use lib.ListN.{length, length-map}
+use Rattle.place.specs.Places.{holds}
+use Rattle.unit.proofs.Searches.{SearchedTo, searched-more, searched-found, searched-none}
+use Rattle.unit.proofs.state.State.place_from.Statement.{statement}
+use Rattle.unit.proofs.state.State.place_from.Tie as tie
+
+abbrev Inv-loop : tie.InvT-loop
+Inv-loop partner from self i₀ i = (i ≤ 4) × SearchedTo (holds partner) (self .places) from i
+
+abbrev μ-loop : tie.MeasureT-loop
+μ-loop partner from self i₀ i = 4 - i
+
+four : (c : tie.Start Inv-loop μ-loop) → length (c .args .t1 .places) ≡ 4
+four c = sym (length-map (c .args .t1 .places) _) ∙ c .good .0 .1 .1 .1 .1 .1 .0 .1 .0 .1
+
+loop-holds : tie.Need-loop-holds Inv-loop μ-loop
+loop-holds c = (c .pre, refl)
+
+mul-place : tie.Need-mul-place Inv-loop μ-loop
+mul-place c = search needs
+
+element-copy-out-place : tie.Need-element-copy-out-place Inv-loop μ-loop
+element-copy-out-place c = search needs
+
+holds-requires : tie.Need-holds-requires Inv-loop μ-loop
+holds-requires c κs = search needs
+
+add-i : tie.Need-add-i Inv-loop μ-loop
+add-i c = omega arith
+
+loop-less : tie.Need-loop-less Inv-loop μ-loop
+loop-less c = omega arith
+
+loop-again : tie.Need-loop-again Inv-loop μ-loop
+loop-again c = (omega arith, searched-more _ (c .before .before .before .before .before .args .t1 .places) _ _ (c .before .before .before .before .loop .inv .1) (omega (arith, four (c .before .before .before .before .before))) (sym (c .before .holds .ensures) ∙ c .if2 .left))
+
+returns : tie.Need-returns Inv-loop μ-loop
+returns c = omega (arith, searched-none _ (c .before .before .args .t1 .places) _ _ (c .before .loop .inv .1) (omega (arith, four (c .before .before))))
+
+returns-2 : tie.Need-returns-2 Inv-loop μ-loop
+returns-2 c = searched-found _ (c .before .before .before .before .before .args .t1 .places) _ _ (c .before .before .before .before .loop .inv .1) (omega (arith, four (c .before .before .before .before .before))) (sym (c .before .holds .ensures) ∙ c .if2 .taken)
+
+pub place-from-spec : {M : Type 1} → statement M
+place-from-spec = tie.close (tie.spec Inv-loop μ-loop loop-holds mul-place element-copy-out-place holds-requires add-i loop-less loop-again returns returns-2)

@@ -1,0 +1,43 @@
+-- Document 01, "Each place and its form": the answer of a step as the code holds it, its actions in an array of four.
+-- Defines: mostActions, noAction; listed, pushed, pushAll; packed, stepped.
+use Prim.Native.Nat.{ℕ, _+_}
+use mathlib.Core.Bool.{cond}
+use mathlib.Core.List.{List, [], _∷_, _++_}
+use lib.Dec.{ltb}
+use lib.ListN.{length, take, set, replicate}
+use Rattle.record.specs.declared.partner.Partner.{Partner}
+use Rattle.unit.specs.Steps.{Outcome, act}
+use Rattle.unit.specs.declared.answer.Action.{Action}
+use Rattle.unit.specs.declared.answer.Actions.{Actions}
+use Rattle.unit.specs.declared.answer.Answer.{Answer}
+use Rattle.unit.specs.declared.answer.Stepped.{Stepped}
+
+-- the most actions of one step
+abbrev pub mostActions : ℕ
+mostActions = 4
+
+-- no action: what stands in the array after the last one
+abbrev pub noAction : Action
+noAction = record { number = 0; partner = record { kind = 0; high = 0; middle = 0; low = 0 } }
+
+-- the actions as the code holds them
+unfoldable pub listed : List Action → Actions
+listed acts = record { items = take mostActions (acts ++ replicate mostActions noAction); count = length acts }
+
+-- one more action, where there is room for it
+unfoldable pub pushed : Actions → Partner → ℕ → Actions
+pushed a p number =
+    cond (ltb (a .count) mostActions) (record { items = set (a .items) (a .count) (act p number); count = a .count + 1 }) a
+
+-- the actions of these numbers for one partner, in their order
+unfoldable pub pushAll : Actions → Partner → List ℕ → Actions
+pushAll a p [] = a
+pushAll a p (number ∷ ks) = pushAll (pushed a p number) p ks
+
+-- an outcome as the code holds it
+unfoldable pub packed : Outcome → Answer
+packed o = record { code = o .code; state = o .state; actions = listed (o .actions) }
+
+-- what a step on bytes answers beside the buffer: the number, the state, and how many actions it wrote
+unfoldable pub stepped : Outcome → Stepped
+stepped o = record { code = o .code; state = o .state; count = length (o .actions) }
