@@ -52,7 +52,7 @@ closing-few Open = omega arith
 closing-few (Lost t) = omega arith
 closing-few (Ending t) = omega arith
 
-shut-few : (which : Due) (k : Holding) → length (actionsIn k (shutHolding which k)) ≤ once (not (isFreeHolding k))
+pub shut-few : (which : Due) (k : Holding) → length (actionsIn k (shutHolding which k)) ≤ once (not (isFreeHolding k))
 shut-few which Free = omega arith
 shut-few which (Held d ph p) =
     cond-holds (λ t. length (map (act p) (numbers t)) ≤ 1) (due which ph p) (closing ph) Untaken
@@ -70,7 +70,7 @@ shutting-few which (p ∷ ps) =
     let joined = length-append (actionsIn (p .holding) (shutTurn which p)) (shutting which ps) in
     omega arith
 
-once-few : (b : Bool) → once b ≤ 1
+pub once-few : (b : Bool) → once b ≤ 1
 once-few true = omega arith
 once-few false = omega arith
 

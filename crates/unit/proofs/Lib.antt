@@ -7,3 +7,5 @@ pub mod Kept
 pub mod Few
 pub mod Starts
 pub mod Tested
+pub mod Answers
+pub mod Sweeps

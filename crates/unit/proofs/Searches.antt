@@ -1,7 +1,7 @@
 -- What a search finds, for any test and any number of places.
--- Proves: first-passes, first-none, none-first; seek-ok; searched-more, searched-found, searched-none;
+-- Proves: first-passes, first-none, none-first; seek-ok, found-ok; searched-more, searched-found, searched-none;
 -- seek-at, seek-vacant, seek-full.
-use mathlib.Core.Path.{_≡_, refl, ap, _∙_}
+use mathlib.Core.Path.{_≡_, refl, ap, subst, _∙_}
 use mathlib.Core.Bool.{Bool, true, false, cond}
 use mathlib.Core.List.{List, [], _∷_}
 use Prim.Native.Nat.{ℕ, suc, _+_, _≤_, _<_}
@@ -77,6 +77,10 @@ seek-ok p ps =
     let below = ltb-true free (length ps) found in
     (below, first-passes isFree ps below, absent))
     (λ full. (first-none isFree ps (ltb-false free (length ps) full), absent)))
+
+-- what a place found says
+pub found-ok : (p : Partner) (ps : List Place) (found : Found) → seek p ps ≡ found → FoundOk p ps found
+found-ok p ps found e = subst (FoundOk p ps) e (seek-ok p ps)
 
 -- a search that has passed the places from one number up to another without finding any
 abbrev pub SearchedTo : (Place → Bool) → List Place → ℕ → ℕ → Type 0

@@ -1,32 +1,16 @@
+-- An RBC that does not accept displaces the sessions.
 use borrow.Author.Needs.{needs}
+use mathlib.Core.Path.{sym, ap, ap₂, _∙_}
+use mathlib.Core.Bool.{cond, _&&_}
+use Rattle.place.specs.declared.turn.Due.the-variants.{Sessions, Nothing}
 use Rattle.unit.proofs.order.displaced.Statement.{statement}
 use Rattle.unit.proofs.order.displaced.Tie as tie
-use Rattle.unit.proofs.order.displaced.Reads as reads
-use Rattle.unit.proofs.order.displaced.Lts as lts
-use Rattle.record.proofs.partner.Partner.is_rbc.Reads as is-rbc-reads
-use Rattle.record.proofs.test.and.Reads as and-reads
-use Rattle.record.proofs.test.negated.Reads as negated-reads
 
--- src/order.rt:71:12
-is-rbc-requires : tie.Need-is-rbc-requires
-is-rbc-requires c κs = search needs
-
--- src/order.rt:71:30
-negated-requires : tie.Need-negated-requires
-negated-requires c κs = search needs
-
--- src/order.rt:71:8
-and-requires : tie.Need-and-requires
-and-requires c κs = search needs
-
--- src/order.rt:68:1
 returns : tie.Need-returns
-returns c = ?
+returns c = ap (λ b. cond b Sessions Nothing) (sym (c .if1 .taken) ∙ c .before .and .ensures ∙ ap₂ _&&_ (c .before .before .before .is-rbc .ensures) (c .before .before .negated .ensures))
 
--- src/order.rt:68:1
 returns-2 : tie.Need-returns-2
-returns-2 c = ?
+returns-2 c = ap (λ b. cond b Sessions Nothing) (sym (c .if1 .left) ∙ c .before .and .ensures ∙ ap₂ _&&_ (c .before .before .before .is-rbc .ensures) (c .before .before .negated .ensures))
 
 pub displaced-spec : {M : Type 1} → statement M
-displaced-spec =
-    tie.close (tie.spec is-rbc-requires negated-requires and-requires returns returns-2)
+displaced-spec = tie.close (tie.spec (λ c κs. search needs) (λ c κs. search needs) (λ c κs. search needs) returns returns-2)
