@@ -9,3 +9,5 @@ pub mod Starts
 pub mod Tested
 pub mod Answers
 pub mod Sweeps
+pub mod Written
+pub mod Bytewise

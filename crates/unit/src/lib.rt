@@ -1,5 +1,6 @@
 // The box: its state, and one step of it.
 pub mod answer;
+pub mod bytes;
 pub mod order;
 pub mod state;
 pub mod step;
