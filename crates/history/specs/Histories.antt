@@ -1,0 +1,168 @@
+-- Document 01, "Worth of each promise": histories, and what demand 3 counts in them.
+-- A history is a row of event records, any bytes, each given 20 bytes for its actions. Everything is counted from the defined steps.
+-- Defines: after, summed; isOrder, isCall, isLoss, orders, calls, losses; actions, count, releases, placesHeld;
+-- names, timeoutFor, silent, timeouts, holdsPlace, waits, releasesOf.
+use Prim.Native.Nat.{ℕ, suc, _+_}
+use mathlib.Core.Bool.{Bool, true, false, cond, _&&_, _||_, not}
+use mathlib.Core.List.{List, [], _∷_}
+use lib.Dec.{eqb}
+use lib.ListN.{length}
+use Rattle.record.specs.Partners.{samePartner}
+use Rattle.record.specs.Records.{byte, kindOrder, kindLoss, kindMessage, messageCall, reading}
+use Rattle.record.specs.Refusals.{accepted}
+use Rattle.record.specs.declared.partner.Partner.{Partner}
+use Rattle.record.specs.declared.event.PartnerEvent.{PartnerEvent}
+use Rattle.record.specs.declared.event.PartnerEvent.the-variants.{Drop, Up, Loss, Timeout, Version, Ended}
+use Rattle.record.specs.declared.event.Event.{Event}
+use Rattle.record.specs.declared.event.Event.the-variants.{Level, Mission, Mode, Hole, Order, EndAll, Call, Named}
+use Rattle.record.specs.declared.event.Reading.{Reading}
+use Rattle.record.specs.declared.event.Reading.the-variants.{Meant, Refused}
+use Rattle.place.specs.Places.{isFree, holds}
+use Rattle.place.specs.Table.{release}
+use Rattle.place.specs.declared.phase.Phase.{Phase}
+use Rattle.place.specs.declared.phase.Phase.the-variants.{Connecting, Contacting, Open, Lost, Ending}
+use Rattle.place.specs.declared.seat.Holding.{Holding}
+use Rattle.place.specs.declared.seat.Holding.the-variants.{Free, Held}
+use Rattle.place.specs.declared.seat.Place.{Place}
+use Rattle.unit.specs.Steps.{Outcome}
+use Rattle.unit.specs.OnRecords.{actionRoom, onRecord}
+use Rattle.unit.specs.declared.state.State.{State}
+use Rattle.unit.specs.declared.answer.Action.{Action}
+
+-- the state after a history
+unfoldable pub after : ℕ → State → List (List ℕ) → State
+after n s [] = s
+after n s (bytes ∷ history) = after n (onRecord n s bytes actionRoom .state) history
+
+-- the sum over a history of what each record and its step count for
+unfoldable pub summed : (List ℕ → Outcome → ℕ) → ℕ → State → List (List ℕ) → ℕ
+summed f n s [] = 0
+summed f n s (bytes ∷ history) =
+    let o : Outcome = onRecord n s bytes actionRoom in
+    f bytes o + summed f n (o .state) history
+
+-- 1 where a test passes
+abbrev pub one : Bool → ℕ
+one b = cond b 1 0
+
+-- kind 5; kind 11 with number 38; kind 9: read from the record's bytes
+abbrev pub isOrder : List ℕ → Bool
+isOrder bytes = eqb (byte bytes 0) kindOrder
+
+abbrev pub isCall : List ℕ → Bool
+isCall bytes = eqb (byte bytes 0) kindMessage && eqb (byte bytes 5) messageCall
+
+abbrev pub isLoss : List ℕ → Bool
+isLoss bytes = eqb (byte bytes 0) kindLoss
+
+-- accepted means code 0
+abbrev pub acceptedAs : (List ℕ → Bool) → List ℕ → Outcome → ℕ
+acceptedAs test bytes o = one (test bytes && eqb (o .code) accepted)
+
+-- the accepted orders, calls 38 and losses of a history
+abbrev pub orders : ℕ → State → List (List ℕ) → ℕ
+orders = summed (acceptedAs isOrder)
+
+abbrev pub calls : ℕ → State → List (List ℕ) → ℕ
+calls = summed (acceptedAs isCall)
+
+abbrev pub losses : ℕ → State → List (List ℕ) → ℕ
+losses = summed (acceptedAs isLoss)
+
+-- the actions of a history
+abbrev pub actions : ℕ → State → List (List ℕ) → ℕ
+actions = summed (λ bytes o. length (o .actions))
+
+-- how many actions pass a test
+unfoldable pub count : (Action → Bool) → List Action → ℕ
+count test [] = 0
+count test (a ∷ acts) = one (test a) + count test acts
+
+-- "releases the actions 22"
+abbrev pub isRelease : Action → Bool
+isRelease a = eqb (a .number) release
+
+abbrev pub releases : ℕ → State → List (List ℕ) → ℕ
+releases = summed (λ bytes o. count isRelease (o .actions))
+
+-- the places that hold a partner
+unfoldable pub placesHeld : List Place → ℕ
+placesHeld [] = 0
+placesHeld (p ∷ ps) = one (not (isFree p)) + placesHeld ps
+
+-- a record names a partner when it reads as an event that carries that type and number
+abbrev pub eventNames : Partner → Event → Bool
+eventNames p (Level level manual) = false
+eventNames p (Mission mission) = false
+eventNames p Mode = false
+eventNames p (Hole entered) = false
+eventNames p (Order q accepting cause) = samePartner p q
+eventNames p EndAll = false
+eventNames p (Call q) = samePartner p q
+eventNames p (Named q e) = samePartner p q
+
+abbrev pub isTimeout : PartnerEvent → Bool
+isTimeout Drop = false
+isTimeout Up = false
+isTimeout Loss = false
+isTimeout Timeout = true
+isTimeout (Version v) = false
+isTimeout Ended = false
+
+abbrev pub eventTimeout : Partner → Event → Bool
+eventTimeout p (Level level manual) = false
+eventTimeout p (Mission mission) = false
+eventTimeout p Mode = false
+eventTimeout p (Hole entered) = false
+eventTimeout p (Order q accepting cause) = false
+eventTimeout p EndAll = false
+eventTimeout p (Call q) = false
+eventTimeout p (Named q e) = samePartner p q && isTimeout e
+
+abbrev pub ofReading : (Event → Bool) → Reading → Bool
+ofReading test (Meant e) = test e
+ofReading test (Refused r) = false
+
+abbrev pub names : Partner → List ℕ → Bool
+names p bytes = ofReading (eventNames p) (reading bytes)
+
+-- a timeout for a partner
+abbrev pub timeoutFor : Partner → List ℕ → Bool
+timeoutFor p bytes = ofReading (eventTimeout p) (reading bytes)
+
+-- "is from then on named by nothing but timeouts"
+unfoldable pub silent : Partner → List (List ℕ) → Bool
+silent p [] = true
+silent p (bytes ∷ history) = (not (names p bytes) || timeoutFor p bytes) && silent p history
+
+unfoldable pub timeouts : Partner → List (List ℕ) → ℕ
+timeouts p [] = 0
+timeouts p (bytes ∷ history) = one (timeoutFor p bytes) + timeouts p history
+
+-- the partner holds a place
+unfoldable pub holdsPlace : Partner → List Place → Bool
+holdsPlace p [] = false
+holdsPlace p (place ∷ ps) = holds p place || holdsPlace p ps
+
+-- "A partner that waits (any phase but Open)"
+abbrev pub waitingPhase : Phase → Bool
+waitingPhase (Connecting t) = true
+waitingPhase (Contacting t) = true
+waitingPhase Open = false
+waitingPhase (Lost t) = true
+waitingPhase (Ending t) = true
+
+abbrev pub waitsIn : Partner → Holding → Bool
+waitsIn p Free = false
+waitsIn p (Held d ph q) = samePartner p q && waitingPhase ph
+
+unfoldable pub waits : Partner → List Place → Bool
+waits p [] = false
+waits p (place ∷ ps) = waitsIn p (place .holding) || waits p ps
+
+-- the releases of one partner
+abbrev pub releaseOf : Partner → Action → Bool
+releaseOf p a = isRelease a && samePartner p (a .partner)
+
+abbrev pub releasesOf : Partner → ℕ → State → List (List ℕ) → ℕ
+releasesOf p = summed (λ bytes o. count (releaseOf p) (o .actions))

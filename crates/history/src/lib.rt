@@ -1,0 +1,1 @@
+// Theorems about every history of the box; no function.
