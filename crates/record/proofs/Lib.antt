@@ -1,3 +1,4 @@
 pub mod Tests
 pub mod Ranges
 pub mod ByKind
+pub mod Blocks

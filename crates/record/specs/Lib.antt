@@ -1,3 +1,4 @@
 pub mod Refusals
 pub mod Partners
 pub mod Records
+pub mod Blocks

@@ -7,12 +7,13 @@ use Prim.Native.Nat.{ℕ, _≤_, _<_}
 use lib.Dec.{leb}
 use lib.ListN.{length, take}
 use borrow.Author.Tests.{le-leb, lt-leb}
+use Rattle.record.specs.Blocks.{blocks}
 use Rattle.record.specs.Records.{reading}
 use Rattle.record.specs.Refusals.{noRoom, notSound}
 use Rattle.record.specs.declared.event.Reading.{Reading}
 use Rattle.unit.specs.States.{sound}
 use Rattle.unit.specs.Steps.{Outcome, refused}
-use Rattle.unit.specs.OnRecords.{actionRoom, actionBytes, onReading, onRecord, written}
+use Rattle.unit.specs.OnRecords.{actionRoom, onReading, onRecord, written}
 use Rattle.unit.specs.Forms.{mostActions, listed, packed, stepped}
 use Rattle.unit.specs.declared.state.State.{State}
 use Rattle.unit.specs.declared.answer.Answer.{Answer}
@@ -39,7 +40,7 @@ Pair r after o buffer = (r ≡ stepped o) × (after ≡ written (o .actions) buf
 
 -- a refusal: the state as given, no action, the buffer as it was
 pub refused-pair : (o : Outcome) (r : ℕ) (s : State) (buffer : List ℕ) → o ≡ refused r s → Pair (record { code = r; state = s; count = 0 }) buffer o buffer
-unfolding stepped written actionBytes
+unfolding stepped written blocks
 refused-pair o r s buffer e = subst (λ x. Pair (record { code = r; state = s; count = 0 }) buffer x buffer) (sym e) (refl, refl)
 
 -- the answer of the step on values, unpacked

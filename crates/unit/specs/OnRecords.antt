@@ -5,6 +5,7 @@ use mathlib.Core.Bool.{cond}
 use mathlib.Core.List.{List, [], _∷_, _++_}
 use lib.Dec.{leb}
 use lib.ListN.{length, take, drop, replicate}
+use Rattle.record.specs.Blocks.{blocks}
 use Rattle.record.specs.Records.{reading}
 use Rattle.record.specs.Refusals.{noRoom, notSound}
 use Rattle.record.specs.declared.event.Reading.{Reading}
@@ -43,9 +44,9 @@ trace n s (bytes ∷ history) =
 abbrev pub bytesOf : Action → List ℕ
 bytesOf a = a .number ∷ a .partner .kind ∷ a .partner .high ∷ a .partner .middle ∷ a .partner .low ∷ []
 
-unfoldable pub actionBytes : List Action → List ℕ
-actionBytes [] = []
-actionBytes (a ∷ acts) = bytesOf a ++ actionBytes acts
+-- the bytes of a step's actions, one after the other
+abbrev pub actionBytes : List Action → List ℕ
+actionBytes = blocks bytesOf
 
 -- "An accepted call writes only its actions ..; later bytes stay"
 unfoldable pub written : List Action → List ℕ → List ℕ

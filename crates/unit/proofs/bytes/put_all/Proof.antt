@@ -1,19 +1,21 @@
 -- The actions passed stand at the front of the buffer.
 use borrow.Author.Needs.{needs}
 use mathlib.Core.Path.{_≡_, refl, sym, ap, _∙_}
-use Prim.Native.Nat.{_+_, _*_, _-_, _≤_}
+use Prim.Native.Nat.{ℕ, _+_, _*_, _-_, _≤_}
 use native.Mathlib.Omega.{arith}
 use denote.Ref.{now}
 use lib.ListN.{length, length-map, getD}
 use lib.Seq.{sets, length-sets}
-use Rattle.unit.specs.OnRecords.{actionSize, bytesOf, actionBytes}
+use Rattle.record.specs.Blocks.{blocks}
+use Rattle.record.proofs.Blocks.{FilledTo, filled-more}
+use Rattle.unit.specs.OnRecords.{actionSize, bytesOf}
 use Rattle.unit.specs.Forms.{noAction}
-use Rattle.unit.proofs.Written.{WrittenTo, written-more, written-end}
+use Rattle.unit.proofs.Written.{written-end}
 use Rattle.unit.proofs.bytes.put_all.Statement.{statement}
 use Rattle.unit.proofs.bytes.put_all.Tie as tie
 
 abbrev Inv-loop : tie.InvT-loop
-Inv-loop s₀ actions count i₀ s i = (i ≤ count) × (length s ≡ length s₀) × (s ≡ WrittenTo (actions .items) s₀ i)
+Inv-loop s₀ actions count i₀ s i = (i ≤ count) × (length s ≡ length s₀) × (s ≡ FilledTo bytesOf 0 (actions .items) s₀ i (actionSize * i))
 
 abbrev μ-loop : tie.MeasureT-loop
 μ-loop s₀ actions count i₀ s i = count - i
@@ -21,8 +23,11 @@ abbrev μ-loop : tie.MeasureT-loop
 four : (c : tie.Start Inv-loop μ-loop) → length (c .args .t2 .items) ≡ 4
 four c = sym (length-map (c .args .t2 .items) _) ∙ c .good .1 .0 .1 .1 .0 .1 .0 .1
 
+five-more : (i : ℕ) → actionSize * i + actionSize ≡ actionSize * (i + 1)
+five-more i = omega arith
+
 loop-holds : tie.Need-loop-holds Inv-loop μ-loop
-unfolding actionBytes
+unfolding blocks
 loop-holds c = (omega arith, refl, refl)
 
 mul-action : tie.Need-mul-action Inv-loop μ-loop
@@ -44,7 +49,7 @@ loop-less : tie.Need-loop-less Inv-loop μ-loop
 loop-less c = omega arith
 
 loop-again : tie.Need-loop-again Inv-loop μ-loop
-loop-again c = (omega arith, ap length (c .before .before .put .ensures) ∙ length-sets (c .before .before .before .before .before .before .loop .s) (actionSize * c .before .before .before .before .before .before .loop .i) (bytesOf (getD (c .before .before .before .before .before .before .before .before .args .t2 .items) (c .before .before .before .before .before .before .loop .i) noAction)) ∙ c .before .before .before .before .before .before .loop .inv .1, c .before .before .put .ensures ∙ ap (λ l. sets l (actionSize * c .before .before .before .before .before .before .loop .i) (bytesOf (getD (c .before .before .before .before .before .before .before .before .args .t2 .items) (c .before .before .before .before .before .before .loop .i) noAction))) (c .before .before .before .before .before .before .loop .inv .2) ∙ written-more (c .before .before .before .before .before .before .before .before .args .t2 .items) (now (c .before .before .before .before .before .before .before .before .args .s)) (c .before .before .before .before .before .before .loop .i) (omega (arith, c .before .before .before .before .before .before .before .before .pre .0, four (c .before .before .before .before .before .before .before .before))) (omega (arith, c .before .before .before .before .before .before .before .before .pre .0, c .before .before .before .before .before .before .before .before .pre .1)))
+loop-again c = (omega arith, ap length (c .before .before .put .ensures) ∙ length-sets (c .before .before .before .before .before .before .loop .s) (actionSize * c .before .before .before .before .before .before .loop .i) (bytesOf (getD (c .before .before .before .before .before .before .before .before .args .t2 .items) (c .before .before .before .before .before .before .loop .i) noAction)) ∙ c .before .before .before .before .before .before .loop .inv .1, c .before .before .put .ensures ∙ ap (λ l. sets l (actionSize * c .before .before .before .before .before .before .loop .i) (bytesOf (getD (c .before .before .before .before .before .before .before .before .args .t2 .items) (c .before .before .before .before .before .before .loop .i) noAction))) (c .before .before .before .before .before .before .loop .inv .2) ∙ filled-more bytesOf actionSize (λ a. refl) 0 (c .before .before .before .before .before .before .before .before .args .t2 .items) (now (c .before .before .before .before .before .before .before .before .args .s)) (c .before .before .before .before .before .before .loop .i) (actionSize * c .before .before .before .before .before .before .loop .i) noAction (omega (arith, c .before .before .before .before .before .before .before .before .pre .0, four (c .before .before .before .before .before .before .before .before))) (omega arith) (omega (arith, c .before .before .before .before .before .before .before .before .pre .0, c .before .before .before .before .before .before .before .before .pre .1)) ∙ ap (FilledTo bytesOf 0 (c .before .before .before .before .before .before .before .before .args .t2 .items) (now (c .before .before .before .before .before .before .before .before .args .s)) (c .before .before .before .before .before .before .loop .i + 1)) (five-more (c .before .before .before .before .before .before .loop .i)))
 
 same-length : tie.Need-same-length Inv-loop μ-loop
 same-length c = c .before .loop .inv .1
