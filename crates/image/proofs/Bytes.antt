@@ -11,7 +11,9 @@ use lib.Dec.{eqb}
 use lib.Seq.{drop-drop}
 use lib.ListN.{length, getD, take, drop, replicate, length-append}
 use borrow.Author.Tests.{eqb-true, eq-eqb}
+use Rattle.record.specs.Blocks.{blocks}
 use Rattle.record.specs.Records.{flag}
+use Rattle.record.proofs.Blocks.{blocks-length}
 use Rattle.record.proofs.Tests.{and-left, and-right, and-both, true-false}
 use Rattle.place.specs.Places.{phaseNumber, tries, directionNumber, vacant, seat, isFree, isFreeHolding}
 use Rattle.place.specs.declared.phase.Phase.{Phase}
@@ -47,13 +49,7 @@ placeBytes-length Free = refl
 placeBytes-length (Held d ph p) = refl
 
 pub placesBytes-length : (ps : List Place) → length (placesBytes ps) ≡ placeSize * length ps
-unfolding placesBytes
-placesBytes-length [] = refl
-placesBytes-length (p ∷ ps) =
-    let one = placeBytes-length (p .holding) in
-    let rest = placesBytes-length ps in
-    let joined = length-append (placeBytes p) (placesBytes ps) in
-    omega arith
+placesBytes-length = blocks-length placeBytes placeSize (λ p. placeBytes-length (p .holding))
 
 -- a place's seven bytes, whatever follows them, stand for it
 not-free : (ph : Phase) → eqb (phaseNumber ph) 0 ≡ false
@@ -63,7 +59,7 @@ not-free Open = refl
 not-free (Lost t) = refl
 not-free (Ending t) = refl
 
-pub placeIn-bytes : (k : Holding) (rest : List ℕ) → placeIn (take placeSize (holdingBytes k ++ rest)) ≡ record { holding = k }
+pub placeIn-bytes : (k : Holding) (rest : List ℕ) → placeIn (holdingBytes k ++ rest) ≡ record { holding = k }
 placeIn-bytes Free rest = refl
 placeIn-bytes (Held d ph p) rest =
     ap (λ b. cond b vacant (seat (directed (directionNumber d)) (phased (phaseNumber ph) (tries ph)) p)) (not-free ph)
@@ -74,7 +70,7 @@ drop-place Free rest = refl
 drop-place (Held d ph p) rest = refl
 
 pub placesIn-bytes : (ps : List Place) → placesIn (length ps) (placesBytes ps) ≡ ps
-unfolding placesIn placesBytes
+unfolding placesIn blocks
 placesIn-bytes [] = refl
 placesIn-bytes (p ∷ ps) =
     ap₂ _∷_ (placeIn-bytes (p .holding) (placesBytes ps))
@@ -124,7 +120,7 @@ take-place Free rest = refl
 take-place (Held d ph p) rest = refl
 
 pub place-bytes-at : (ps : List Place) (i : ℕ) → i < length ps → take placeSize (drop (placeSize * i) (placesBytes ps)) ≡ placeBytes (getD ps i vacant)
-unfolding placesBytes
+unfolding blocks
 place-bytes-at [] i h = absurd (omega arith)
 place-bytes-at (p ∷ ps) zero h = take-place (p .holding) (placesBytes ps)
 place-bytes-at (p ∷ ps) (suc i) h =

@@ -5,6 +5,7 @@ use mathlib.Core.Bool.{Bool, true, false, cond, _&&_}
 use mathlib.Core.List.{List, [], _∷_, _++_}
 use lib.Dec.{eqb, leb}
 use lib.ListN.{length, take, drop, replicate}
+use Rattle.record.specs.Blocks.{blocks}
 use Rattle.record.specs.Records.{byte, flag}
 use Rattle.record.specs.Refusals.{accepted, wrongLength, unknownKind, noRoom, notSound}
 use Rattle.place.specs.Places.{phaseNumber, tries, directionNumber, vacant, seat}
@@ -41,9 +42,9 @@ holdingBytes (Held d ph p) =
 abbrev pub placeBytes : Place → List ℕ
 placeBytes place = holdingBytes (place .holding)
 
-unfoldable pub placesBytes : List Place → List ℕ
-placesBytes [] = []
-placesBytes (p ∷ ps) = placeBytes p ++ placesBytes ps
+-- the bytes of the places, one after the other
+abbrev pub placesBytes : List Place → List ℕ
+placesBytes = blocks placeBytes
 
 -- a mark's byte: 0 or 1
 abbrev pub markByte : Bool → ℕ
@@ -95,7 +96,7 @@ phased number t =
 abbrev pub directed : ℕ → Direction
 directed number = cond (eqb number 0) Outgoing Incoming
 
--- the place that seven bytes stand for: free where the phase is 0
+-- the place that the next seven bytes stand for: free where the phase is 0
 abbrev pub placeIn : List ℕ → Place
 placeIn s =
     cond (eqb (byte s 0) 0) vacant
@@ -104,7 +105,7 @@ placeIn s =
 
 unfoldable pub placesIn : ℕ → List ℕ → List Place
 placesIn zero s = []
-placesIn (suc k) s = placeIn (take placeSize s) ∷ placesIn k (drop placeSize s)
+placesIn (suc k) s = placeIn s ∷ placesIn k (drop placeSize s)
 
 -- the head of a body, eight bytes
 abbrev pub headSize : ℕ
