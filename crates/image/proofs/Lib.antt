@@ -1,3 +1,4 @@
 pub mod Bytes
 pub mod RoundTrips
 pub mod Putting
+pub mod Taking

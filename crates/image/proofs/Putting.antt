@@ -1,22 +1,24 @@
 -- Writing an image: the numbers that fit a byte, and the buffer once all is written.
--- Proves: sound-small, image-end.
+-- Proves: sound-small, image-end; wrote-no-room, wrote-unsound, wrote-done.
 use mathlib.Core.Path.{_≡_, refl, sym, ap, ap₂, _∙_}
-use mathlib.Core.Bool.{true}
+use mathlib.Core.Bool.{true, false}
 use mathlib.Core.List.{List, [], _∷_, _++_, append-assoc}
 use Prim.Native.Nat.{ℕ, _+_, _≤_, _<_}
 use native.Mathlib.Omega.{arith}
 use lib.Dec.{leb}
 use lib.ListN.{length, take, drop}
 use lib.Seq.{sets, sets-eq, take-all, take-append-seam, drop-append-seam, drop-drop}
-use borrow.Author.Tests.{leb-true}
+use borrow.Author.Tests.{leb-true, le-leb, lt-leb}
 use Rattle.record.specs.Records.{highestLevel, missionUnderWay}
+use Rattle.record.specs.Refusals.{accepted, noRoom, notSound}
 use Rattle.record.proofs.Tests.{and-left, and-right}
 use Rattle.record.proofs.Blocks.{FilledTo}
 use Rattle.place.specs.declared.seat.Place.{Place}
 use Rattle.unit.specs.States.{placeCount, highestX, sound}
 use Rattle.unit.specs.declared.state.State.{State}
 use Rattle.unit.proofs.Facts.{sound-facts}
-use Rattle.image.specs.Images.{imageKind, imageSize, placeBytes, placesBytes, headBytes, bodyBytes, imageOf}
+use Rattle.image.specs.Images.{imageKind, imageSize, placeBytes, placesBytes, headBytes, bodyBytes, imageOf, writeRefused, writeImage, imaged}
+use Rattle.image.specs.declared.Stored.{Stored}
 
 -- the numbers of a sound state that are wider than a byte in the code
 pub record Small (s : State) : Type 0 where
@@ -47,3 +49,19 @@ image-end s buffer four room =
 
     later : drop imageSize ((imageKind ∷ headBytes s) ++ drop 9 buffer) ≡ drop imageSize buffer
     later = drop-drop 28 9 buffer
+
+-- what writing answers, and the buffer at exit, by what the tests showed
+module _ (n : ℕ) (s : State) (buffer : List ℕ) where
+  pub wrote-no-room : length buffer < imageSize → (writeRefused noRoom s ≡ writeImage n s (length buffer)) × (buffer ≡ imaged n s buffer)
+  unfolding writeImage imaged
+  wrote-no-room small = (simp (lt-leb imageSize (length buffer) small), simp (lt-leb imageSize (length buffer) small))
+
+  module _ (room : imageSize ≤ length buffer) where
+    pub wrote-unsound : sound n s ≡ false → (writeRefused notSound s ≡ writeImage n s (length buffer)) × (buffer ≡ imaged n s buffer)
+    unfolding writeImage imaged
+    wrote-unsound bad = (simp (le-leb imageSize (length buffer) room, bad), simp (le-leb imageSize (length buffer) room, bad))
+
+    pub wrote-done : (after : List ℕ) → sound n s ≡ true → after ≡ imageOf s ++ drop imageSize buffer → (_≡_ {A = Stored} (record { code = accepted; state = s; count = imageSize }) (writeImage n s (length buffer))) × (after ≡ imaged n s buffer)
+    unfolding writeImage imaged
+    wrote-done after good wrote =
+        (simp (le-leb imageSize (length buffer) room, good), wrote ∙ simp (le-leb imageSize (length buffer) room, good))

@@ -96,12 +96,15 @@ phased number t =
 abbrev pub directed : ℕ → Direction
 directed number = cond (eqb number 0) Outgoing Incoming
 
+-- "phase, direction, tries, partner"
+abbrev pub heldIn : List ℕ → Place
+heldIn s =
+    seat (directed (byte s 1)) (phased (byte s 0) (byte s 2))
+    (record { kind = byte s 3; high = byte s 4; middle = byte s 5; low = byte s 6 })
+
 -- the place that the next seven bytes stand for: free where the phase is 0
 abbrev pub placeIn : List ℕ → Place
-placeIn s =
-    cond (eqb (byte s 0) 0) vacant
-    (seat (directed (byte s 1)) (phased (byte s 0) (byte s 2))
-    (record { kind = byte s 3; high = byte s 4; middle = byte s 5; low = byte s 6 }))
+placeIn s = cond (eqb (byte s 0) 0) vacant (heldIn s)
 
 unfoldable pub placesIn : ℕ → List ℕ → List Place
 placesIn zero s = []
