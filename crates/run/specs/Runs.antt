@@ -1,6 +1,6 @@
 -- Document 01, "Run over a log".
 -- Defines: the stops; takeOne; steps, the list of the steps taken; count, Tally's changes; go, run.
-use Prim.Native.Nat.{ℕ, zero, suc, _+_}
+use Prim.Native.Nat.{ℕ, zero, suc, _+_, _*_, _≤_}
 use mathlib.Core.Bool.{cond}
 use mathlib.Core.List.{List, [], _∷_}
 use lib.Dec.{eqb, leb}
@@ -75,6 +75,33 @@ totalled t acts =
       terminate = t .terminate + count terminate acts;
       established = t .established + count established acts;
     }
+
+-- the totals with one action of this number
+unfoldable pub added : Totals → ℕ → Totals
+added t number =
+    record {
+      request = cond (eqb number request) (t .request + 1) (t .request);
+      release = cond (eqb number release) (t .release + 1) (t .release);
+      incompatible = cond (eqb number incompatible) (t .incompatible + 1) (t .incompatible);
+      initiate = cond (eqb number initiate) (t .initiate + 1) (t .initiate);
+      terminate = cond (eqb number terminate) (t .terminate + 1) (t .terminate);
+      established = cond (eqb number established) (t .established + 1) (t .established);
+    }
+
+-- no total is over a number
+pub record Below (b : ℕ) (t : Totals) : Type 0 where
+  pub request : t .request ≤ b
+  pub release : t .release ≤ b
+  pub incompatible : t .incompatible ≤ b
+  pub initiate : t .initiate ≤ b
+  pub terminate : t .terminate ≤ b
+  pub established : t .established ≤ b
+
+-- a run's counts are bounded by the offset reached
+pub record Bounded (t : Tally) : Type 0 where
+  pub read : t .read ≤ t .offset
+  pub refused : t .refused ≤ t .read
+  pub totals : Below (4 * t .read) (t .totals)
 
 -- a run before its first record
 abbrev pub fresh : State → Tally

@@ -1,5 +1,41 @@
 // The run over a log: its records one after the other, counted.
+ghost use mathlib.Core.Path.{_≡_};
+ghost use Prim.Native.Nat.{_+_, _≤_, _<_};
+ghost use mathlib.Core.Bool.{true};
+ghost use lib.ListN.{length, getD, take, drop};
+ghost use Rattle.record.specs.Records.{lengthOf};
+ghost use Rattle.record.specs.Refusals.{outOfRange};
+ghost use Rattle.place.specs.Places.{tryLimit};
+ghost use Rattle.unit.specs.States.{sound};
+ghost use Rattle.unit.specs.OnRecords.{actionRoom, onRecord};
+ghost use Rattle.unit.specs.Steps.{refused};
+ghost use Rattle.run.specs.Runs.{takeOne, noTotals, added, totalled, Below, Bounded, fresh, counted, go, run};
+use place::turn::ESTABLISHED;
+use place::turn::INCOMPATIBLE;
+use place::turn::INITIATE;
+use place::turn::RELEASE;
+use place::turn::REQUEST;
+use place::turn::TERMINATE;
+use record::event::Reading;
+use record::read::fields_of;
+use record::read::length_of;
+use record::refusal::ACCEPTED;
+use record::refusal::LOG_TOO_LONG;
+use record::refusal::NOT_SOUND;
+use unit::answer::Actions;
 use unit::state::State;
+
+// The stops.
+pub const NOTHING_LEFT: u8 = 0;
+
+pub const BUDGET_USED: u8 = 1;
+
+pub const RECORD_SHORT: u8 = 2;
+
+pub const KIND_UNKNOWN: u8 = 3;
+
+// The longest log.
+pub const LONGEST_LOG: usize = 1_048_576;
 
 // How often each of the six actions was sent.
 pub struct Totals {
@@ -31,4 +67,206 @@ pub struct Report {
 pub enum Taken {
     Whole(usize),
     Stopped(u8),
+}
+
+impl Totals {
+    fn none() -> Totals
+        ensures { λ r. ⌜ r ≡ noTotals ⌝ }
+    {
+        Totals {
+            request: 0,
+            release: 0,
+            incompatible: 0,
+            initiate: 0,
+            terminate: 0,
+            established: 0,
+        }
+    }
+
+    // One more action of this number.
+    fn add(self, number: u8) -> Totals
+        requires { ⌜ Below 8388608 self ⌝ }
+        ensures { λ r. ⌜ r ≡ added self number ⌝ }
+    {
+        let mut next = self;
+        match number {
+            REQUEST => {
+                next.request += 1;
+                next
+            }
+            RELEASE => {
+                next.release += 1;
+                next
+            }
+            INCOMPATIBLE => {
+                next.incompatible += 1;
+                next
+            }
+            INITIATE => {
+                next.initiate += 1;
+                next
+            }
+            TERMINATE => {
+                next.terminate += 1;
+                next
+            }
+            ESTABLISHED => {
+                next.established += 1;
+                next
+            }
+            _ => next,
+        }
+    }
+
+    // The actions of one step.
+    fn add_all(self, actions: Actions) -> Totals
+        requires { ⌜ (actions .count ≤ 4) × Below 4194304 self ⌝ }
+        ensures { λ r. ⌜ r ≡ totalled self (take (actions .count) (actions .items)) ⌝ }
+    {
+        let mut totals = self;
+        let count = actions.count;
+        let mut i = 0;
+        while i < count {
+            let action = actions.items[i];
+            totals = totals.add(action.number);
+            i += 1;
+        }
+        totals
+    }
+}
+
+// What stands at a place of a log, the budget left aside.
+fn take_one(log: &[u8], at: usize) -> Taken
+    requires { ⌜ at ≤ length (now log) ⌝ }
+    ensures { λ r. ⌜ r ≡ takeOne (drop at (now (log .entry))) ⌝ }
+{
+    if at >= log.len() {
+        return Taken::Stopped(NOTHING_LEFT);
+    }
+    let length = length_of(log[at]);
+    if length == 0 {
+        return Taken::Stopped(KIND_UNKNOWN);
+    }
+    if log.len() - at < length {
+        return Taken::Stopped(RECORD_SHORT);
+    }
+    Taken::Whole(length)
+}
+
+impl Tally {
+    // A run before its first record.
+    fn fresh(state: State) -> Tally
+        ensures { λ r. ⌜ r ≡ fresh state ⌝ }
+    {
+        Tally {
+            state,
+            offset: 0,
+            read: 0,
+            refused: 0,
+            totals: Totals::none(),
+        }
+    }
+
+    // The run after a record of this length that was refused.
+    fn refuse(self, length: usize) -> Tally
+        requires { ⌜ Bounded self × (self .offset + length ≤ 1048576) ⌝ }
+        ensures { λ r. ⌜ r ≡ counted self length (refused outOfRange (self .state)) ⌝ }
+    {
+        let mut next = self;
+        next.offset = self.offset + length;
+        next.read = self.read + 1;
+        next.refused = self.refused + 1;
+        next
+    }
+
+    // The run after one more record, which stands whole in these bytes.
+    fn apply(self, bytes: &[u8]) -> Tally
+        requires { ⌜ Bounded self × (self .offset + length (now bytes) ≤ 1048576) × (sound tryLimit (self .state) ≡ true) × (0 < length (now bytes)) × (length (now bytes) ≡ lengthOf (getD (now bytes) 0 0)) ⌝ }
+        ensures { λ r. ⌜ r ≡ counted self (length (now (bytes .entry))) (onRecord tryLimit (self .state) (now (bytes .entry)) actionRoom) ⌝ }
+    {
+        let kind = bytes[0];
+        match fields_of(kind, bytes) {
+            Reading::Meant(event) => {
+                let state = self.state;
+                let answer = state.step(event);
+                if answer.code == ACCEPTED {
+                    let totals = self.totals;
+                    let actions = answer.actions;
+                    let next = answer.state;
+                    Tally {
+                        state: next,
+                        offset: self.offset + bytes.len(),
+                        read: self.read + 1,
+                        refused: self.refused,
+                        totals: totals.add_all(actions),
+                    }
+                } else {
+                    self.refuse(bytes.len())
+                }
+            }
+            Reading::Refused(_) => self.refuse(bytes.len()),
+        }
+    }
+}
+
+// The records of a log from a sound state.
+fn go(state: State, log: &[u8], budget: usize) -> Report
+    requires { ⌜ (length (now log) ≤ 1048576) × (sound tryLimit state ≡ true) ⌝ }
+    ensures { λ r. ⌜ r ≡ go tryLimit budget (fresh state) (now (log .entry)) ⌝ }
+{
+    let mut tally = Tally::fresh(state);
+    let mut left = budget;
+    loop {
+        let at = tally.offset;
+        if at >= log.len() {
+            break Report {
+                code: ACCEPTED,
+                stop: NOTHING_LEFT,
+                tally,
+            };
+        }
+        if left == 0 {
+            break Report {
+                code: ACCEPTED,
+                stop: BUDGET_USED,
+                tally,
+            };
+        }
+        match take_one(log, at) {
+            Taken::Stopped(stop) => {
+                break Report {
+                    code: ACCEPTED,
+                    stop,
+                    tally,
+                };
+            }
+            Taken::Whole(length) => {
+                let end = at + length;
+                tally = tally.apply(&log[at..end]);
+                left -= 1;
+            }
+        }
+    }
+}
+
+// Runs over a log with a budget of records: refusal 12 for a log over 1,048,576 bytes, then 11 for a state that is not sound.
+pub fn run(state: State, log: &[u8], budget: usize) -> Report
+    ensures { λ r. ⌜ r ≡ run tryLimit state (now (log .entry)) budget ⌝ }
+{
+    if log.len() > LONGEST_LOG {
+        return Report {
+            code: LOG_TOO_LONG,
+            stop: 0,
+            tally: Tally::fresh(state),
+        };
+    }
+    if state.is_sound() {
+        go(state, log, budget)
+    } else {
+        Report {
+            code: NOT_SOUND,
+            stop: 0,
+            tally: Tally::fresh(state),
+        }
+    }
 }

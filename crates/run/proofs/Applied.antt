@@ -1,0 +1,70 @@
+-- One record of a run, stepped on values: it is the step on the record's bytes.
+-- Proves: applied-reading, applied-done, applied-kept.
+use mathlib.Core.Path.{_≡_, refl, sym, ap, subst, _∙_}
+use mathlib.Core.Bool.{true}
+use mathlib.Core.List.{List}
+use Prim.Native.Nat.{ℕ, _+_, _≤_, _<_}
+use native.Mathlib.Omega.{arith}
+use lib.Dec.{leb, lit≤}
+use lib.ListN.{length, getD, take}
+use borrow.Author.Tests.{leb-true}
+use Rattle.record.specs.Records.{lengthOf, bodyOf, fields, reading}
+use Rattle.record.specs.Refusals.{accepted, wrongLength, outOfRange}
+use Rattle.record.specs.declared.event.Event.{Event}
+use Rattle.record.specs.declared.event.Reading.{Reading}
+use Rattle.record.specs.declared.event.Reading.the-variants.{Meant, Refused}
+use Rattle.record.proofs.Tests.{and-left}
+use Rattle.record.proofs.Ranges.{readingOk, reading-ok}
+use Rattle.record.proofs.ByKind.{read-fields}
+use Rattle.place.specs.Places.{tryLimit}
+use Rattle.unit.specs.States.{sound}
+use Rattle.unit.specs.Steps.{Outcome, refused, step}
+use Rattle.unit.specs.OnRecords.{actionRoom, onReading, onRecord}
+use Rattle.unit.specs.Forms.{mostActions, listed, packed}
+use Rattle.unit.specs.declared.state.State.{State}
+use Rattle.unit.specs.declared.answer.Answer.{Answer}
+use Rattle.unit.proofs.Kept.{step-kept}
+use Rattle.unit.proofs.Written.{listed-take}
+use Rattle.unit.proofs.Bytewise.{on-reading}
+use Rattle.run.specs.Runs.{totalled, counted}
+use Rattle.run.specs.declared.Totals.{Totals}
+use Rattle.run.specs.declared.Tally.{Tally}
+use Rattle.run.proofs.Tallies.{counted-done, counted-kept}
+
+module _ (n : ℕ) (s : State) (bytes : List ℕ) (good : sound n s ≡ true) (some : 0 < length bytes) (whole : length bytes ≡ lengthOf (getD bytes 0 0)) (r : Reading) (means : r ≡ fields (bodyOf (getD bytes 0 0)) bytes) where
+  -- a whole record of a known kind reads as its fields
+  read-as : reading bytes ≡ r
+  read-as =
+      sym (read-fields bytes (length bytes) (λ h. omega arith) whole (λ h. omega arith) refl) ∙ sym means
+
+  pub applied-reading : onRecord n s bytes actionRoom ≡ onReading n s r
+  applied-reading = on-reading n s bytes actionRoom (lit≤ tt) r good read-as
+
+  -- a reading's refusal has a number
+  pub applied-numbered : (code : ℕ) → r ≡ Refused code → code ≡ accepted → ⊥
+  applied-numbered code is-refused none =
+      let ok : readingOk (Refused code) ≡ true = subst (λ x. readingOk x ≡ true) (read-as ∙ is-refused) (reading-ok bytes) in
+      let number = leb-true wrongLength code (and-left (leb wrongLength code) (leb code outOfRange) ok) in
+      omega arith
+
+-- the answer of an accepted step, counted
+pub applied-done : (t : Tally) (k : ℕ) (o : Outcome) (a : Answer) (totals : Totals) → a ≡ packed o → length (o .actions) ≤ mostActions → a .code ≡ accepted → totals ≡ totalled (t .totals) (take (a .actions .count) (a .actions .items)) → _≡_ {A = Tally} (record { state = a .state; offset = t .offset + k; read = t .read + 1; refused = t .refused; totals = totals }) (counted t k o)
+unfolding packed listed
+applied-done t k o a totals e few code sum =
+    (λ i.
+    record {
+      state = e i .state;
+      offset = t .offset + k;
+      read = t .read + 1;
+      refused = t .refused;
+      totals = (sum ∙ ap (λ x. totalled (t .totals) (take (x .actions .count) (x .actions .items))) e ∙ ap (totalled (t .totals)) (listed-take (o .actions) few)) i;
+    })
+    ∙ counted-done t k o (sym (ap (λ x. x .code) e) ∙ code)
+
+-- a step that was refused, counted
+pub applied-kept : (t : Tally) (k n : ℕ) (e : Event) (a : Answer) → a ≡ packed (step n (t .state) e) → (a .code ≡ accepted → ⊥) → counted t k (refused outOfRange (t .state)) ≡ counted t k (step n (t .state) e)
+unfolding packed
+applied-kept t k n e a is other =
+    let code : step n (t .state) e .code ≡ accepted → ⊥ = λ h. other (ap (λ x. x .code) is ∙ h) in
+    let kept = step-kept n (t .state) e code in
+    counted-kept t k (step n (t .state) e) code (kept .0) (kept .1)

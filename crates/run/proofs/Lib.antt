@@ -1,0 +1,3 @@
+pub mod Tallies
+pub mod Takes
+pub mod Applied
