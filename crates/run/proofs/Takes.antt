@@ -22,7 +22,7 @@ module _ (log : List ℕ) (at : ℕ) where
   take-end above = sym (ap takeOne (drop-of-length-le log above))
 
   module _ (below : at < length log) where
-    by-kind : takeOne (drop at log) ≡ cond (known (getD log at 0)) (cond (leb (lengthOf (getD log at 0)) (length log - at)) (Whole (lengthOf (getD log at 0))) (Stopped recordShort)) (Stopped kindUnknown)
+    pub by-kind : takeOne (drop at log) ≡ cond (known (getD log at 0)) (cond (leb (lengthOf (getD log at 0)) (length log - at)) (Whole (lengthOf (getD log at 0))) (Stopped recordShort)) (Stopped kindUnknown)
     unfolding takeOne
     by-kind =
         let kind = getD log at 0 in
