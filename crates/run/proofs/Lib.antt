@@ -3,3 +3,5 @@ pub mod Takes
 pub mod Applied
 pub mod Going
 pub mod Starting
+pub mod Steps
+pub mod Codes

@@ -1,12 +1,12 @@
 -- Document 01, "Run over a log".
--- Defines: the stops; takeOne; steps, the list of the steps taken; count, Tally's changes; go, run.
+-- Defines: the stops; takeOne; steps, the list of the steps taken; count, totalled, counted; go, run; sumOf, runCode, allCodes.
 use Prim.Native.Nat.{ℕ, zero, suc, _+_, _*_, _≤_}
-use mathlib.Core.Bool.{cond}
+use mathlib.Core.Bool.{Bool, true, cond, _&&_, _||_}
 use mathlib.Core.List.{List, [], _∷_}
 use lib.Dec.{eqb, leb}
 use lib.ListN.{length, take, drop}
 use Rattle.record.specs.Records.{known, lengthOf}
-use Rattle.record.specs.Refusals.{accepted, notSound, logTooLong}
+use Rattle.record.specs.Refusals.{accepted, outOfRange, callFromRiu, notSound, logTooLong}
 use Rattle.place.specs.Table.{request, release, incompatible, initiate, terminate, established}
 use Rattle.unit.specs.States.{sound}
 use Rattle.unit.specs.Steps.{Outcome}
@@ -139,3 +139,16 @@ unfoldable pub run : ℕ → State → List ℕ → ℕ → Report
 run n s log budget =
     cond (leb (length log) longestLog) (cond (sound n s) (go n budget (fresh s) log) (runRefused notSound s))
     (runRefused logTooLong s)
+
+-- the sum over steps of what each counts for
+unfoldable pub sumOf : (Outcome → ℕ) → List Outcome → ℕ
+sumOf w [] = 0
+sumOf w (o ∷ os) = w o + sumOf w os
+
+-- "A record refused with 3 to 9": the numbers that a step of a run may have
+abbrev pub runCode : ℕ → Bool
+runCode code = eqb code accepted || (leb outOfRange code && leb code callFromRiu)
+
+unfoldable pub allCodes : List Outcome → Bool
+allCodes [] = true
+allCodes (o ∷ os) = runCode (o .code) && allCodes os

@@ -1,0 +1,115 @@
+-- The counts of a run are those of its steps, and no step of a run is refused with 1, 2, 10 or 11.
+-- Proves: go-sum; run-read, run-refused, run-request .. run-established; run-codes.
+use mathlib.Core.Path.{_≡_, refl, sym, ap, subst, _∙_}
+use mathlib.Core.Bool.{Bool, true, false, cond, _&&_, not}
+use mathlib.Core.List.{List, [], _∷_}
+use Prim.Native.Nat.{ℕ, zero, suc, _+_, _≤_, _<_}
+use native.Mathlib.Nat.{add-zero, zero-add, add-assoc}
+use native.Mathlib.Omega.{arith}
+use lib.Dec.{eqb, leb}
+use lib.ListN.{length, getD, take, drop}
+use borrow.Author.Tests.{leb-true}
+use Rattle.record.specs.Records.{known, lengthOf, bodyOf, fields, reading, missionEnded}
+use Rattle.record.specs.Partners.{isRbc}
+use Rattle.record.specs.Refusals as refusal
+use Rattle.record.specs.declared.event.Event.{Event}
+use Rattle.record.specs.declared.event.Event.the-variants.{Level, Mission, Mode, Hole, Order, EndAll, Call, Named}
+use Rattle.record.specs.declared.event.Reading.{Reading}
+use Rattle.record.specs.declared.event.Reading.the-variants.{Meant, Refused}
+use Rattle.record.proofs.Tests.{and-both, cond-case, cond-holds}
+use Rattle.place.specs.Places.{vacant}
+use Rattle.place.specs.Table.{request, release, incompatible, initiate, terminate, established, takes, placeTurn}
+use Rattle.place.specs.declared.turn.Due.the-variants.{Every}
+use Rattle.unit.specs.States.{seek, sound}
+use Rattle.unit.specs.Steps.{Outcome, refused, done, withMission, holeTaken, inForce, sweep, orderedAt, calledAt, turnedAt, turned, namedAt, step}
+use Rattle.unit.specs.OnRecords.{actionRoom, onReading, onRecord}
+use Rattle.unit.specs.declared.state.State.{State}
+use Rattle.unit.specs.declared.state.Found.{Found}
+use Rattle.unit.specs.declared.state.Found.the-variants.{At, Vacant, Full}
+use Rattle.unit.proofs.Sound.{onRecord-sound}
+use Rattle.run.specs.Runs.{longestLog, takeOne, onTaken, steps, count, totalled, counted, fresh, ended, go, runRefused, run, sumOf, runCode, allCodes}
+use Rattle.run.specs.declared.Tally.{Tally}
+use Rattle.run.specs.declared.Report.{Report}
+use Rattle.run.specs.declared.Taken.{Taken}
+use Rattle.run.specs.declared.Taken.the-variants.{Whole, Stopped}
+use Rattle.run.proofs.Applied.{applied-reading}
+use Rattle.run.proofs.Going.{whole-ok}
+
+-- a count that each record changes by what its step counts for is the sum over the steps
+module _ (f : Tally → ℕ) (w : Outcome → ℕ) (each : (t : Tally) (k : ℕ) (o : Outcome) → f (counted t k o) ≡ f t + w o) (n : ℕ) where
+  pub go-sum : (budget : ℕ) (t : Tally) (log : List ℕ) → f (go n budget t log .tally) ≡ f t + sumOf w (steps n budget (t .state) log)
+  unfolding go steps sumOf counted
+  go-sum zero t [] = sym (add-zero (f t))
+  go-sum zero t (x ∷ log) = sym (add-zero (f t))
+  go-sum (suc budget) t log = by (takeOne log) (λ k. go-sum budget (counted t k (onRecord n (t .state) (take k log) actionRoom)) (drop k log))
+    where
+      by : (x : Taken) → ((k : ℕ) → f (go n budget (counted t k (onRecord n (t .state) (take k log) actionRoom)) (drop k log) .tally) ≡ f (counted t k (onRecord n (t .state) (take k log) actionRoom)) + sumOf w (steps n budget (onRecord n (t .state) (take k log) actionRoom .state) (drop k log))) → f (onTaken x (λ stop. ended t stop) (λ k. go n budget (counted t k (onRecord n (t .state) (take k log) actionRoom)) (drop k log)) .tally) ≡ f t + sumOf w (onTaken x (λ stop. []) (λ k. onRecord n (t .state) (take k log) actionRoom ∷ steps n budget (onRecord n (t .state) (take k log) actionRoom .state) (drop k log)))
+      by (Stopped stop) rest = sym (add-zero (f t))
+      by (Whole k) rest =
+          let o = onRecord n (t .state) (take k log) actionRoom in
+          let here = each t k o in
+          let later = rest k in
+          omega arith
+
+sum-one : (os : List Outcome) → sumOf (λ o. 1) os ≡ length os
+unfolding sumOf
+sum-one [] = refl
+sum-one (o ∷ os) =
+    let rest = sum-one os in
+    omega arith
+
+-- the run that is not refused, as its steps
+module _ (n : ℕ) (s : State) (log : List ℕ) (budget : ℕ) (taken : run n s log budget .code ≡ refusal.accepted) where
+  is-go : run n s log budget ≡ go n budget (fresh s) log
+  unfolding run
+  is-go =
+      cond-case (λ r. r .code ≡ refusal.accepted → r ≡ go n budget (fresh s) log) (leb (length log) longestLog) (cond (sound n s) (go n budget (fresh s) log) (runRefused refusal.notSound s)) (runRefused refusal.logTooLong s)
+      (λ fits.
+      cond-holds (λ r. r .code ≡ refusal.accepted → r ≡ go n budget (fresh s) log) (sound n s) (go n budget (fresh s) log) (runRefused refusal.notSound s)
+      (λ h. refl)
+      (λ h. absurd (omega arith)))
+      (λ long h. absurd (omega arith))
+      taken
+
+  the-steps : List Outcome
+  the-steps = steps n budget s log
+
+  summed : (f : Tally → ℕ) (w : Outcome → ℕ) → ((t : Tally) (k : ℕ) (o : Outcome) → f (counted t k o) ≡ f t + w o) → f (fresh s) ≡ 0 → f (run n s log budget .tally) ≡ sumOf w the-steps
+  unfolding the-steps
+  summed f w each none =
+      ap (λ r. f (r .tally)) is-go ∙ go-sum f w each n budget (fresh s) log ∙ ap (λ x. x + sumOf w (steps n budget s log)) none ∙ zero-add (sumOf w (steps n budget s log))
+
+  -- "Records read are the steps taken"
+  pub run-read : run n s log budget .tally .read ≡ length (steps n budget s log)
+  unfolding the-steps counted
+  run-read = summed (λ t. t .read) (λ o. 1) (λ t k o. refl) refl ∙ sum-one (steps n budget s log)
+
+  -- those refused are the steps with a number
+  pub run-refused : run n s log budget .tally .refused ≡ sumOf (λ o. cond (eqb (o .code) refusal.accepted) 0 1) (steps n budget s log)
+  unfolding the-steps counted
+  run-refused = summed (λ t. t .refused) (λ o. cond (eqb (o .code) refusal.accepted) 0 1) (λ t k o. refl) refl
+
+  -- "each total is the sum over those steps' actions"
+  pub run-request : run n s log budget .tally .totals .request ≡ sumOf (λ o. count request (o .actions)) (steps n budget s log)
+  unfolding the-steps counted totalled
+  run-request = summed (λ t. t .totals .request) (λ o. count request (o .actions)) (λ t k o. refl) refl
+
+  pub run-release : run n s log budget .tally .totals .release ≡ sumOf (λ o. count release (o .actions)) (steps n budget s log)
+  unfolding the-steps counted totalled
+  run-release = summed (λ t. t .totals .release) (λ o. count release (o .actions)) (λ t k o. refl) refl
+
+  pub run-incompatible : run n s log budget .tally .totals .incompatible ≡ sumOf (λ o. count incompatible (o .actions)) (steps n budget s log)
+  unfolding the-steps counted totalled
+  run-incompatible = summed (λ t. t .totals .incompatible) (λ o. count incompatible (o .actions)) (λ t k o. refl) refl
+
+  pub run-initiate : run n s log budget .tally .totals .initiate ≡ sumOf (λ o. count initiate (o .actions)) (steps n budget s log)
+  unfolding the-steps counted totalled
+  run-initiate = summed (λ t. t .totals .initiate) (λ o. count initiate (o .actions)) (λ t k o. refl) refl
+
+  pub run-terminate : run n s log budget .tally .totals .terminate ≡ sumOf (λ o. count terminate (o .actions)) (steps n budget s log)
+  unfolding the-steps counted totalled
+  run-terminate = summed (λ t. t .totals .terminate) (λ o. count terminate (o .actions)) (λ t k o. refl) refl
+
+  pub run-established : run n s log budget .tally .totals .established ≡ sumOf (λ o. count established (o .actions)) (steps n budget s log)
+  unfolding the-steps counted totalled
+  run-established = summed (λ t. t .totals .established) (λ o. count established (o .actions)) (λ t k o. refl) refl
