@@ -2,3 +2,4 @@ pub mod Tests
 pub mod Ranges
 pub mod ByKind
 pub mod Blocks
+pub mod Padded

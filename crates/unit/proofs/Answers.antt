@@ -8,7 +8,6 @@ use native.Mathlib.Numerals.{add-one}
 use native.Mathlib.Omega.{arith}
 use lib.Dec.{eqb}
 use lib.ListN.{length, take, set, replicate, length-append}
-use lib.Seq.{take-set-lt, set-append-seam, take-append-le}
 use borrow.Author.Tests.{lt-ltb}
 use Rattle.record.specs.Partners.{isRbc}
 use Rattle.record.specs.Records.{missionEnded}
@@ -17,6 +16,7 @@ use Rattle.record.specs.declared.partner.Partner.{Partner}
 use Rattle.record.specs.declared.event.Cause.{Cause}
 use Rattle.record.specs.declared.event.PartnerEvent.{PartnerEvent}
 use Rattle.record.specs.declared.event.Event.the-variants.{Mission, Hole, Order, Call, Named}
+use Rattle.record.proofs.Padded.{padded-push}
 use Rattle.place.specs.Table.{takes}
 use Rattle.place.specs.declared.turn.Turn.{Turn}
 use Rattle.place.specs.declared.turn.Due.the-variants.{Every}
@@ -66,26 +66,12 @@ module _ (n : ℕ) (s : State) where
 pub push-listed : (acts : List Action) (p : Partner) (number : ℕ) → length acts < mostActions → pushed (listed acts) p number ≡ listed (acts ++ (act p number ∷ []))
 unfolding pushed listed
 push-listed acts p number room =
-    simp (lt-ltb (length acts) mostActions room) (λ i. record { items = stored i; count = counted i })
-  where
-    a : Action
-    a = act p number
-
-    three : List Action
-    three = replicate 3 noAction
-
-    long : mostActions ≤ length (acts ++ (a ∷ three))
-    long = simp length-append (omega arith)
-
-    stored : set (take mostActions (acts ++ (noAction ∷ three))) (length acts) a ≡ take mostActions ((acts ++ (a ∷ [])) ++ (noAction ∷ three))
-    stored =
-        sym (take-set-lt mostActions (acts ++ (noAction ∷ three)) (length acts) a room)
-        ∙ ap (take mostActions) (set-append-seam acts noAction three a)
-        ∙ sym (take-append-le mostActions (acts ++ (a ∷ three)) (noAction ∷ []) long)
-        ∙ ap (take mostActions) (append-assoc acts (a ∷ three) (noAction ∷ []) ∙ sym (append-assoc acts (a ∷ []) (noAction ∷ three)))
-
-    counted : length acts + 1 ≡ length (acts ++ (a ∷ []))
-    counted = sym (length-append acts (a ∷ []))
+    simp (lt-ltb (length acts) mostActions room)
+    (λ i.
+    record {
+      items = padded-push 3 noAction (act p number) acts room i;
+      count = sym (length-append acts (act p number ∷ [])) i;
+    })
 
 -- so do the actions of one partner
 pub send-listed : (acts : List Action) (p : Partner) (ks : List ℕ) → length acts + length ks ≤ mostActions → pushAll (listed acts) p ks ≡ listed (acts ++ map (act p) ks)

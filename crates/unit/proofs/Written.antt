@@ -3,9 +3,10 @@
 use mathlib.Core.Path.{_≡_, sym, ap, _∙_}
 use mathlib.Core.List.{List, _++_}
 use Prim.Native.Nat.{ℕ, _*_, _≤_}
-use lib.ListN.{length, take, drop, replicate}
-use lib.Seq.{length-take-le, take-take, take-append-seam}
+use lib.ListN.{length, take, drop}
+use lib.Seq.{length-take-le}
 use Rattle.record.proofs.Blocks.{FilledTo}
+use Rattle.record.proofs.Padded.{padded-take}
 use Rattle.unit.specs.OnRecords.{actionSize, bytesOf, actionBytes, written}
 use Rattle.unit.specs.Forms.{mostActions, noAction, listed}
 use Rattle.unit.specs.declared.answer.Action.{Action}
@@ -20,6 +21,4 @@ written-end items s i count same few =
 -- the actions counted in the code's array are the list's
 pub listed-take : (acts : List Action) → length acts ≤ mostActions → take (listed acts .count) (listed acts .items) ≡ acts
 unfolding listed
-listed-take acts few =
-    take-take (length acts) mostActions (acts ++ replicate mostActions noAction) few
-    ∙ take-append-seam acts (replicate mostActions noAction)
+listed-take acts few = padded-take mostActions noAction acts few

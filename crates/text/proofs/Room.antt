@@ -1,0 +1,48 @@
+-- Every line of a sheet has room.
+-- Proves: decimal-room, line-room, end-room.
+use mathlib.Core.List.{List, [], _∷_, _++_}
+use Prim.Native.Nat.{ℕ, _+_, _*_, _≤_}
+use native.Mathlib.Omega.{arith}
+use lib.ListN.{length, length-append}
+use Rattle.record.specs.Blocks.{blocks}
+use Rattle.unit.specs.declared.answer.Action.{Action}
+use Rattle.text.specs.Texts.{newline, space, slash, colon, mostDigits, decimal, partnerNumber, actionText, lineText, endText, textRoom}
+use Rattle.text.proofs.Numbers.{digits-few}
+
+few : (n : ℕ) → length (decimal n) ≤ mostDigits
+few n = digits-few mostDigits n
+
+pub decimal-room : (n : ℕ) → length (decimal n) ≤ textRoom
+decimal-room n = omega (arith, few n)
+
+action-few : (a : Action) → length (actionText a) ≤ 33
+unfolding actionText
+action-few a =
+    let number = few (a .number) in
+    let type = few (a .partner .kind) in
+    let partner = few (partnerNumber (a .partner)) in
+    simp length-append (omega arith)
+
+actions-few : (acts : List Action) → length (blocks actionText acts) ≤ 33 * length acts
+unfolding blocks
+actions-few [] = omega arith
+actions-few (a ∷ acts) =
+    let one = action-few a in
+    let rest = actions-few acts in
+    simp length-append (omega arith)
+
+pub line-room : (number kind code : ℕ) (acts : List Action) → length acts ≤ 4 → length (lineText number kind code acts) ≤ textRoom
+unfolding lineText
+line-room number kind code acts most =
+    let numbers = few number in
+    let kinds = few kind in
+    let codes = few code in
+    let actions = actions-few acts in
+    simp length-append (omega arith)
+
+pub end-room : (stop read : ℕ) → length (endText stop read) ≤ textRoom
+unfolding endText
+end-room stop read =
+    let stops = few stop in
+    let reads = few read in
+    simp length-append (omega arith)

@@ -1,0 +1,80 @@
+-- Document 01, "Run over a log", the part on the program `sheet`: the text of a number, of a line and of the end.
+-- Defines: digits, decimal; actionText, lineText, endText; textRoom, texted, pushed, pushes; placed, placedCount.
+use Prim.Native.Nat.{ℕ, zero, suc, _+_, _*_, _/_, _%_}
+use mathlib.Core.Bool.{cond}
+use mathlib.Core.List.{List, [], _∷_, _++_}
+use lib.Dec.{ltb, leb}
+use lib.ListN.{length, take, drop, set, replicate}
+use Rattle.record.specs.Blocks.{blocks}
+use Rattle.record.specs.declared.partner.Partner.{Partner}
+use Rattle.unit.specs.declared.answer.Action.{Action}
+use Rattle.text.specs.declared.Text.{Text}
+
+-- the characters of a sheet
+abbrev pub newline : ℕ
+newline = 10
+
+abbrev pub space : ℕ
+space = 32
+
+abbrev pub slash : ℕ
+slash = 47
+
+abbrev pub digitZero : ℕ
+digitZero = 48
+
+abbrev pub colon : ℕ
+colon = 58
+
+-- the decimal digits of a number, highest first, at most so many
+unfoldable pub digits : ℕ → ℕ → List ℕ
+digits zero n = []
+digits (suc k) n = cond (ltb n 10) ((digitZero + n) ∷ []) (digits k (n / 10) ++ ((digitZero + n % 10) ∷ []))
+
+-- no number of a sheet has more than ten
+abbrev pub mostDigits : ℕ
+mostDigits = 10
+
+-- "numbers are decimal"
+abbrev pub decimal : ℕ → List ℕ
+decimal n = digits mostDigits n
+
+-- a partner's 24-bit number
+abbrev pub partnerNumber : Partner → ℕ
+partnerNumber p = p .high * 65536 + p .middle * 256 + p .low
+
+-- "each action as number:type/partner", after the space that separates it
+unfoldable pub actionText : Action → List ℕ
+actionText a =
+    (space ∷ decimal (a .number)) ++ ((colon ∷ decimal (a .partner .kind)) ++ (slash ∷ decimal (partnerNumber (a .partner))))
+
+-- "one line a record (number from 1, kind, 0 or refusal, each action ..)"
+unfoldable pub lineText : ℕ → ℕ → ℕ → List Action → List ℕ
+lineText number kind code acts =
+    decimal number ++ ((space ∷ decimal kind) ++ ((space ∷ decimal code) ++ (blocks actionText acts ++ (newline ∷ []))))
+
+-- "and `end`, stop, records read"
+unfoldable pub endText : ℕ → ℕ → List ℕ
+endText stop read =
+    (101 ∷ 110 ∷ 100 ∷ space ∷ []) ++ (decimal stop ++ ((space ∷ decimal read) ++ (newline ∷ [])))
+
+-- a text as the code holds it while it is made
+abbrev pub textRoom : ℕ
+textRoom = 192
+
+unfoldable pub texted : List ℕ → Text
+texted l = record { bytes = take textRoom (l ++ replicate textRoom 0); used = length l }
+
+unfoldable pub pushed : Text → ℕ → Text
+pushed t b = cond (ltb (t .used) textRoom) (record { bytes = set (t .bytes) (t .used) b; used = t .used + 1 }) t
+
+unfoldable pub pushes : Text → List ℕ → Text
+pushes t [] = t
+pushes t (b ∷ bs) = pushes (pushed t b) bs
+
+-- a text put to the front of a lent buffer, where it has room; later bytes stay
+unfoldable pub placed : List ℕ → List ℕ → List ℕ
+placed text buffer = cond (leb (length text) (length buffer)) (text ++ drop (length text) buffer) buffer
+
+unfoldable pub placedCount : List ℕ → ℕ → ℕ
+placedCount text room = cond (leb (length text) room) (length text) 0
