@@ -1,8 +1,9 @@
 -- Document 01, "Worth of each promise": histories, and what demand 3 counts in them.
 -- A history is a row of event records, any bytes, each given 20 bytes for its actions. Everything is counted from the defined steps.
 -- Defines: after, summed; isOrder, isCall, isLoss, orders, calls, losses; actions, count, releases, placesHeld;
--- names, timeoutFor, silent, timeouts, holdsPlace, waits, releasesOf.
-use Prim.Native.Nat.{ℕ, suc, _+_}
+-- names, timeoutFor, silent, timeouts, holdsPlace, waits, releasesOf; heldTries;
+-- perOrder, perCall, perLoss, timeoutsToRelease; actionsOf, ordersOf, callsOf, lossesOf.
+use Prim.Native.Nat.{ℕ, suc, _+_, _*_}
 use mathlib.Core.Bool.{Bool, true, false, cond, _&&_, _||_, not}
 use mathlib.Core.List.{List, [], _∷_}
 use lib.Dec.{eqb}
@@ -17,7 +18,7 @@ use Rattle.record.specs.declared.event.Event.{Event}
 use Rattle.record.specs.declared.event.Event.the-variants.{Level, Mission, Mode, Hole, Order, EndAll, Call, Named}
 use Rattle.record.specs.declared.event.Reading.{Reading}
 use Rattle.record.specs.declared.event.Reading.the-variants.{Meant, Refused}
-use Rattle.place.specs.Places.{isFree, holds}
+use Rattle.place.specs.Places.{isFree, holds, tries}
 use Rattle.place.specs.Table.{release}
 use Rattle.place.specs.declared.phase.Phase.{Phase}
 use Rattle.place.specs.declared.phase.Phase.the-variants.{Connecting, Contacting, Open, Lost, Ending}
@@ -166,3 +167,38 @@ releaseOf p a = isRelease a && samePartner p (a .partner)
 
 abbrev pub releasesOf : Partner → ℕ → State → List (List ℕ) → ℕ
 releasesOf p = summed (λ bytes o. count (releaseOf p) (o .actions))
+
+-- the tries used at a place, 0 where it is free
+abbrev pub triesIn : Holding → ℕ
+triesIn Free = 0
+triesIn (Held d ph p) = tries ph
+
+abbrev pub heldTries : Place → ℕ
+heldTries place = triesIn (place .holding)
+
+-- the most actions for each accepted order, call 38 and loss, n being the limit of tries: 11, 5 and 3 where it is 3
+abbrev pub perOrder : ℕ → ℕ
+perOrder n = 3 * n + 2
+
+abbrev pub perCall : ℕ → ℕ
+perCall n = n + 2
+
+abbrev pub perLoss : ℕ → ℕ
+perLoss n = n
+
+-- the timeouts after which a partner that waits is released
+abbrev pub timeoutsToRelease : ℕ → ℕ
+timeoutsToRelease n = n
+
+-- what one partner counts for: the actions for it, and the accepted orders, calls 38 and losses that name it
+abbrev pub actionsOf : Partner → ℕ → State → List (List ℕ) → ℕ
+actionsOf p = summed (λ bytes o. count (λ a. samePartner p (a .partner)) (o .actions))
+
+abbrev pub ordersOf : Partner → ℕ → State → List (List ℕ) → ℕ
+ordersOf p = summed (acceptedAs (λ bytes. names p bytes && isOrder bytes))
+
+abbrev pub callsOf : Partner → ℕ → State → List (List ℕ) → ℕ
+callsOf p = summed (acceptedAs (λ bytes. names p bytes && isCall bytes))
+
+abbrev pub lossesOf : Partner → ℕ → State → List (List ℕ) → ℕ
+lossesOf p = summed (acceptedAs (λ bytes. names p bytes && isLoss bytes))

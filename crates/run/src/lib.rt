@@ -135,9 +135,8 @@ impl Totals {
     }
 }
 
-// What stands at a place of a log, the budget left aside.
-fn take_one(log: &[u8], at: usize) -> Taken
-    requires { ⌜ at ≤ length (now log) ⌝ }
+// What stands at a place of a log, the budget left aside: a whole record of this length, or stop 0, 2 or 3.
+pub fn take_one(log: &[u8], at: usize) -> Taken
     ensures { λ r. ⌜ r ≡ takeOne (drop at (now (log .entry))) ⌝ }
 {
     if at >= log.len() {

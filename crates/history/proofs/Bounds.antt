@@ -1,0 +1,131 @@
+-- Demand 3, the bound: so many actions for each accepted order, call and loss, and no more.
+-- Each held place has a worth, the most actions that it can still cause with no further order, call or loss accepted.
+-- Defines: worth, worths. Proves: worths-balanced; bound-from, bound, bound-of; demand-bound, demand-bound-of.
+use mathlib.Core.Path.{_≡_, refl}
+use mathlib.Core.Bool.{true}
+use mathlib.Core.List.{List, [], _∷_}
+use Prim.Native.Nat.{ℕ, _+_, _-_, _*_, _≤_}
+use native.Mathlib.Omega.{arith}
+use lib.ListN.{length}
+use Rattle.record.specs.Partners.{samePartner}
+use Rattle.record.specs.Records.{reading}
+use Rattle.record.specs.Refusals.{accepted}
+use Rattle.record.specs.declared.partner.Partner.{Partner}
+use Rattle.place.specs.Places.{tryLimit}
+use Rattle.place.specs.Table.{table, closing, play}
+use Rattle.place.specs.declared.phase.Phase.{Phase}
+use Rattle.place.specs.declared.phase.Phase.the-variants.{Connecting, Contacting, Open, Lost, Ending}
+use Rattle.place.specs.declared.turn.Limits.{Limits}
+use Rattle.place.proofs.Turns.{judged-case}
+use Rattle.unit.specs.States.{coldStart}
+use Rattle.unit.specs.OnRecords.{actionRoom, onRecord}
+use Rattle.unit.specs.declared.state.State.{State}
+use Rattle.unit.specs.declared.answer.Action.{Action}
+use Rattle.history.specs.Histories.{after, orders, calls, losses, actions, count, names, perOrder, perCall, perLoss, actionsOf, ordersOf, callsOf, lossesOf}
+use Rattle.history.proofs.Rows.{_▹_, Beside}
+use Rattle.history.proofs.Balances.{atMost}
+use Rattle.history.proofs.Scales.{Scale, Turned, Balanced, turns-by-row, again-turned}
+use Rattle.history.proofs.Accounts.{total}
+use Rattle.history.proofs.Counted.{rated, summed-same, whose-any, whose-one, and-true, rated-account}
+use Rattle.history.proofs.Along.{cold-light}
+
+-- n being the limit of tries
+abbrev pub worth : ℕ → Phase → ℕ
+worth n (Connecting t) = (2 * n + 2) + (n - t)
+worth n (Contacting t) = (n + 2) + (n - t)
+worth n Open = n + 1
+worth n (Lost t) = (n + 1) + (n - t)
+worth n (Ending t) = 1 + (n - t)
+
+-- every action counts
+abbrev pub worths : ℕ → Scale
+worths n = rated (worth n) (λ number. true) (perOrder n) (perCall n) (perLoss n)
+
+module _ (n : ℕ) (some-try : 1 ≤ n) where
+  -- no closing costs more than its place is worth
+  closings : (ph : Phase) → Turned atMost (worths n) ph 0 (closing ph)
+  closings (Connecting t) = omega arith
+  closings (Contacting t) = omega arith
+  closings Open = omega arith
+  closings (Lost t) = omega arith
+  closings (Ending t) = omega arith
+
+  -- nor any cell of the table, and a loss brings its part
+  rows : (l : Limits) (ph : Phase) (v : ℕ) → Beside (λ c b. Turned atMost (worths n) ph b (play n l ph v c)) (table ph) (worths n .columns)
+  rows l (Connecting t) v =
+      omega arith
+      ▹ omega arith
+      ▹ omega arith
+      ▹ again-turned atMost n (worths n) 21 (Connecting t) 0 (λ more. omega arith) (λ last. omega arith)
+      ▹ omega arith
+  rows l (Contacting t) v =
+      omega arith
+      ▹ omega arith
+      ▹ omega arith
+      ▹ again-turned atMost n (worths n) 155 (Contacting t) 0 (λ more. omega arith) (λ last. omega arith)
+      ▹ judged-case (Turned atMost (worths n) (Contacting t) 0) l v (omega arith) (omega arith)
+      ▹ omega arith
+  rows l Open v = omega arith
+  rows l (Lost t) v =
+      omega arith
+      ▹ omega arith
+      ▹ omega arith
+      ▹ again-turned atMost n (worths n) 21 (Lost t) 0 (λ more. omega arith) (λ last. omega arith)
+      ▹ omega arith
+  rows l (Ending t) v =
+      omega arith
+      ▹ omega arith
+      ▹ omega arith
+      ▹ again-turned atMost n (worths n) 156 (Ending t) 0 (λ more. omega arith) (λ last. omega arith)
+      ▹ omega arith
+
+  -- nor does an order or a call
+  pub worths-balanced : Balanced atMost n (worths n)
+  worths-balanced =
+      record {
+        ordered = omega arith;
+        called = omega arith;
+        closings = closings;
+        turns = turns-by-row atMost n (worths n) rows;
+      }
+
+-- each action counts one
+count-all : (acts : List Action) → count (λ a. true) acts ≡ length acts
+unfolding count
+count-all [] = refl
+count-all (a ∷ acts) =
+    let rest = count-all acts in
+    omega arith
+
+module _ (n : ℕ) (some-try : 1 ≤ n) where
+  -- from every state: what its places are worth comes on top
+  pub bound-from : (s : State) (history : List (List ℕ)) → actions n s history + total (worths n) (λ p. true) (after n s history .places) ≤ total (worths n) (λ p. true) (s .places) + (perOrder n * orders n s history + (perCall n * calls n s history + perLoss n * losses n s history))
+  bound-from s history =
+      let account =
+      rated-account (worth n) (λ number. true) (perOrder n) (perCall n) (perLoss n) (λ p. true) (λ bytes. true) (λ bytes. whose-any (reading bytes)) n atMost
+      (worths-balanced n some-try) (λ a. true) (λ a. refl) s history in
+      let all = summed-same (λ bytes o. count (λ a. true) (o .actions)) (λ bytes o. length (o .actions)) n (λ s bytes. count-all (onRecord n s bytes actionRoom .actions)) s history in
+      omega arith
+
+  -- from a cold start, no more actions than these
+  pub bound : (l : Limits) → coldStart l .code ≡ accepted → (history : List (List ℕ)) → actions n (coldStart l .state) history ≤ perOrder n * orders n (coldStart l .state) history + perCall n * calls n (coldStart l .state) history + perLoss n * losses n (coldStart l .state) history
+  bound l started history =
+      let most = bound-from (coldStart l .state) history in
+      let none = cold-light (worths n) (λ p. true) l in
+      omega arith
+
+  -- and none for a partner but by its own orders, calls and losses
+  pub bound-of : (p : Partner) (l : Limits) → coldStart l .code ≡ accepted → (history : List (List ℕ)) → actionsOf p n (coldStart l .state) history ≤ perOrder n * ordersOf p n (coldStart l .state) history + perCall n * callsOf p n (coldStart l .state) history + perLoss n * lossesOf p n (coldStart l .state) history
+  bound-of p l started history =
+      let account =
+      rated-account (worth n) (λ number. true) (perOrder n) (perCall n) (perLoss n) (samePartner p) (names p) (λ bytes. whose-one p (reading bytes)) n atMost
+      (worths-balanced n some-try) (λ a. samePartner p (a .partner)) (λ a. and-true (samePartner p (a .partner))) (coldStart l .state) history in
+      let none = cold-light (worths n) (samePartner p) l in
+      omega arith
+
+-- with the three tries of document 01
+pub demand-bound : (l : Limits) → coldStart l .code ≡ accepted → (history : List (List ℕ)) → actions tryLimit (coldStart l .state) history ≤ 11 * orders tryLimit (coldStart l .state) history + 5 * calls tryLimit (coldStart l .state) history + 3 * losses tryLimit (coldStart l .state) history
+demand-bound = bound tryLimit (omega arith)
+
+pub demand-bound-of : (p : Partner) (l : Limits) → coldStart l .code ≡ accepted → (history : List (List ℕ)) → actionsOf p tryLimit (coldStart l .state) history ≤ 11 * ordersOf p tryLimit (coldStart l .state) history + 5 * callsOf p tryLimit (coldStart l .state) history + 3 * lossesOf p tryLimit (coldStart l .state) history
+demand-bound-of = bound-of tryLimit (omega arith)

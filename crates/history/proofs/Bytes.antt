@@ -1,0 +1,140 @@
+-- The bytes by which demand 3 counts a record tell the event that it reads as: kind 5 is an order, 38 of kind 11 a call, kind 9 a loss.
+-- Defines: isOrderEvent, isCallEvent, isLossEvent, Tells. Proves: reading-tells, unread.
+use mathlib.Core.Path.{_≡_, refl, ap, _∙_}
+use mathlib.Core.Bool.{Bool, true, false, cond}
+use mathlib.Core.List.{List, [], _∷_}
+use Prim.Native.Nat.{ℕ}
+use native.Mathlib.Omega.{arith}
+use lib.Dec.{eqb, leb}
+use lib.ListN.{length}
+use borrow.Author.Tests.{eqb-true, ne-eqb, leb-true}
+use Rattle.record.specs.Records.{Body, byte, messageVersion, messageCall, messageMeans, partnerIn, levelBody, missionBody, modeBody, holeBody, orderBody, partnerBody, endAllBody, messageBody, known, lengthOf, bodies, bodyOf, noBody, reading}
+use Rattle.record.specs.Refusals.{accepted, wrongLength, unknownKind, outOfRange, notSound}
+use Rattle.record.specs.declared.partner.Partner.{Partner}
+use Rattle.record.specs.declared.event.PartnerEvent.{PartnerEvent}
+use Rattle.record.specs.declared.event.PartnerEvent.the-variants.{Drop, Up, Loss, Timeout, Version, Ended}
+use Rattle.record.specs.declared.event.Event.{Event}
+use Rattle.record.specs.declared.event.Event.the-variants.{Level, Mission, Mode, Hole, Order, EndAll, Call, Named}
+use Rattle.record.specs.declared.event.Reading.{Reading}
+use Rattle.record.specs.declared.event.Reading.the-variants.{Meant, Refused}
+use Rattle.record.proofs.Tests.{and-left, cond-case, cond-holds, true-false}
+use Rattle.record.proofs.Ranges.{readingOk, reading-ok}
+use Rattle.unit.specs.States.{sound}
+use Rattle.unit.specs.Steps.{Outcome, refused}
+use Rattle.unit.specs.OnRecords.{actionRoom, onReading, onRecord}
+use Rattle.unit.specs.declared.state.State.{State}
+use Rattle.history.specs.Histories.{isOrder, isCall, isLoss}
+use Rattle.history.proofs.Rows.{_▹_, Numbered, numbered-at}
+
+-- the events that are counted
+abbrev pub isOrderEvent : Event → Bool
+isOrderEvent (Level level manual) = false
+isOrderEvent (Mission mission) = false
+isOrderEvent Mode = false
+isOrderEvent (Hole entered) = false
+isOrderEvent (Order p accepting cause) = true
+isOrderEvent EndAll = false
+isOrderEvent (Call p) = false
+isOrderEvent (Named p e) = false
+
+abbrev pub isCallEvent : Event → Bool
+isCallEvent (Level level manual) = false
+isCallEvent (Mission mission) = false
+isCallEvent Mode = false
+isCallEvent (Hole entered) = false
+isCallEvent (Order p accepting cause) = false
+isCallEvent EndAll = false
+isCallEvent (Call p) = true
+isCallEvent (Named p e) = false
+
+abbrev pub isLost : PartnerEvent → Bool
+isLost Drop = false
+isLost Up = false
+isLost Loss = true
+isLost Timeout = false
+isLost (Version v) = false
+isLost Ended = false
+
+abbrev pub isLossEvent : Event → Bool
+isLossEvent (Level level manual) = false
+isLossEvent (Mission mission) = false
+isLossEvent Mode = false
+isLossEvent (Hole entered) = false
+isLossEvent (Order p accepting cause) = false
+isLossEvent EndAll = false
+isLossEvent (Call p) = false
+isLossEvent (Named p e) = isLost e
+
+-- what the bytes say of an event
+abbrev pub TellsEvent : List ℕ → Event → Type 0
+TellsEvent bytes e = (isOrder bytes ≡ isOrderEvent e) × (isCall bytes ≡ isCallEvent e) × (isLoss bytes ≡ isLossEvent e)
+
+abbrev pub Tells : List ℕ → Reading → Type 0
+Tells bytes (Meant e) = TellsEvent bytes e
+Tells bytes (Refused r) = Unit
+
+-- number 38 and no other is a call
+message-tells : (number version : ℕ) (p : Partner) (bytes : List ℕ) → isOrder bytes ≡ false → isCall bytes ≡ eqb number messageCall → isLoss bytes ≡ false → TellsEvent bytes (messageMeans number version p)
+message-tells number version p bytes order call loss =
+    cond-case (TellsEvent bytes) (eqb number messageVersion) (Named p (Version version)) (cond (eqb number messageCall) (Call p) (Named p Ended))
+    (λ is. (order, call ∙ ap (λ k. eqb k messageCall) (eqb-true number messageVersion is), loss))
+    (λ other.
+    cond-case (TellsEvent bytes) (eqb number messageCall) (Call p) (Named p Ended)
+    (λ is. (order, call ∙ is, loss))
+    (λ neither. (order, call ∙ neither, loss)))
+
+-- what a row of the table of kinds says of the bytes of its records
+abbrev Row : ℕ → Body → Type 0
+Row kind body = (s : List ℕ) → byte s 0 ≡ kind → body .ranges s ≡ true → TellsEvent s (body .means s)
+
+-- the kind's byte decides, and for a call the number's
+by-first : (kind : ℕ) (body : Body) (s : List ℕ) → byte s 0 ≡ kind → body .ranges s ≡ true → (isOrder s ≡ isOrder (kind ∷ [])) × (isCall s ≡ isCall (kind ∷ 0 ∷ 0 ∷ 0 ∷ 0 ∷ byte s 5 ∷ [])) × (isLoss s ≡ isLoss (kind ∷ []))
+by-first kind body s e ok =
+    (ap (λ k. isOrder (k ∷ [])) e, ap (λ k. isCall (k ∷ 0 ∷ 0 ∷ 0 ∷ 0 ∷ byte s 5 ∷ [])) e, ap (λ k. isLoss (k ∷ [])) e)
+
+-- the table of kinds, row by row
+rows-tell : Numbered Row 0 bodies
+rows-tell =
+    (λ s e ok. true-false false ok refl)
+    ▹ by-first 1 levelBody
+    ▹ by-first 2 missionBody
+    ▹ by-first 3 modeBody
+    ▹ by-first 4 holeBody
+    ▹ by-first 5 orderBody
+    ▹ by-first 6 (partnerBody Drop)
+    ▹ by-first 7 endAllBody
+    ▹ by-first 8 (partnerBody Up)
+    ▹ by-first 9 (partnerBody Loss)
+    ▹ by-first 10 (partnerBody Timeout)
+    ▹ (λ s e ok.
+    let told = by-first 11 messageBody s e ok in
+    message-tells (byte s 5) (byte s 6) (partnerIn s) s (told .0) (told .1) (told .2))
+    ▹ tt
+
+-- so every record that is read
+pub reading-tells : (bytes : List ℕ) → Tells bytes (reading bytes)
+unfolding reading
+reading-tells [] = tt
+reading-tells (kind ∷ body) =
+    let s = kind ∷ body in
+    cond-holds (Tells s) (known kind) _ (Refused unknownKind)
+    (cond-holds (Tells s) (eqb (length s) (lengthOf kind)) _ (Refused wrongLength)
+    (cond-case (Tells s) (bodyOf kind .ranges s) (Meant (bodyOf kind .means s)) (Refused outOfRange) (numbered-at Row 0 bodies noBody rows-tell (λ i s e ok. true-false false ok refl) kind s (omega arith))
+    (λ outside. tt))
+    tt)
+    tt
+
+-- a record that reads as no event is not accepted
+abbrev pub Unread : Outcome → Reading → Type 0
+Unread o (Meant e) = Unit
+Unread o (Refused r) = eqb (o .code) accepted ≡ false
+
+pub unread : (n : ℕ) (s : State) (bytes : List ℕ) → Unread (onRecord n s bytes actionRoom) (reading bytes)
+unfolding onRecord
+unread n s bytes = by (reading bytes) (reading-ok bytes)
+  where
+    by : (r : Reading) → readingOk r ≡ true → Unread (cond (sound n s) (onReading n s r) (refused notSound s)) r
+    by (Meant e) ok = tt
+    by (Refused r) ok =
+        let some = leb-true wrongLength r (and-left (leb wrongLength r) (leb r outOfRange) ok) in
+        cond-holds (λ o. Unread o (Refused r)) (sound n s) (refused r s) (refused notSound s) (ne-eqb r accepted (λ e. omega arith)) refl

@@ -1,0 +1,195 @@
+-- What is left to a partner: the most timeouts that its place can still take, and one more than the limit of tries while it is Open.
+-- So a partner to whom no more than the limit is left waits, and each timeout that names it takes one away.
+-- Defines: left, lefts, leftTo. Proves: lefts-balanced; held-left, none-left, waiting-left.
+use mathlib.Core.Path.{_≡_, refl}
+use mathlib.Core.Bool.{Bool, true, false, cond, _&&_, _||_}
+use mathlib.Core.List.{List, [], _∷_}
+use Prim.Native.Nat.{ℕ, zero, suc, _+_, _-_, _*_, _≤_}
+use native.Mathlib.Omega.{arith}
+use lib.Dec.{leb}
+use borrow.Author.Tests.{leb-true}
+use Rattle.record.specs.Partners.{samePartner, partnerOk}
+use Rattle.record.specs.declared.partner.Partner.{Partner}
+use Rattle.record.proofs.Tests.{and-left, and-right, cond-case, true-false}
+use Rattle.place.specs.Places.{seat, holds, holdsIn, directionOk}
+use Rattle.place.specs.Table.{table, closing, play}
+use Rattle.place.specs.declared.phase.Phase.{Phase}
+use Rattle.place.specs.declared.phase.Phase.the-variants.{Connecting, Contacting, Open, Lost, Ending}
+use Rattle.place.specs.declared.seat.Direction.{Direction}
+use Rattle.place.specs.declared.seat.Holding.{Holding}
+use Rattle.place.specs.declared.seat.Holding.the-variants.{Free, Held}
+use Rattle.place.specs.declared.seat.Place.{Place}
+use Rattle.place.specs.declared.turn.Limits.{Limits}
+use Rattle.place.proofs.Turns.{judged-case}
+use Rattle.unit.proofs.Weights.{weigh, once, here}
+use Rattle.unit.proofs.Facts.{bad, PlacesFacts}
+use Rattle.history.specs.Histories.{one, waitingPhase, waitsIn, waits}
+use Rattle.history.proofs.Rows.{_▹_, Beside}
+use Rattle.history.proofs.Balances.{atMost}
+use Rattle.history.proofs.Scales.{Scale, Turned, Balanced, weightIn, turns-by-row, again-turned}
+use Rattle.history.proofs.Accounts.{total}
+
+-- n being the limit of tries
+abbrev pub left : ℕ → Phase → ℕ
+left n (Connecting t) = 1 + (n - t)
+left n (Contacting t) = 1 + (n - t)
+left n Open = n + 1
+left n (Lost t) = 1 + (n - t)
+left n (Ending t) = 1 + (n - t)
+
+-- every action counts; what opens a session, or takes a partner in, brings more
+abbrev pub lefts : ℕ → Scale
+lefts n =
+    record { weight = left n; counts = λ number. true; order = n + 1; call = n + 2; columns = 0 ∷ n ∷ 0 ∷ 0 ∷ (n + 1) ∷ 0 ∷ [] }
+
+-- what is left to one partner
+abbrev pub leftTo : ℕ → Partner → List Place → ℕ
+leftTo n p ps = total (lefts n) (samePartner p) ps
+
+module _ (n : ℕ) (some-try : 1 ≤ n) where
+  -- no closing costs more than what is left
+  closings : (ph : Phase) → Turned atMost (lefts n) ph 0 (closing ph)
+  closings (Connecting t) = omega arith
+  closings (Contacting t) = omega arith
+  closings Open = omega arith
+  closings (Lost t) = omega arith
+  closings (Ending t) = omega arith
+
+  -- nor any cell of the table, and what opens a session brings more
+  rows : (l : Limits) (ph : Phase) (v : ℕ) → Beside (λ c b. Turned atMost (lefts n) ph b (play n l ph v c)) (table ph) (lefts n .columns)
+  rows l (Connecting t) v =
+      omega arith
+      ▹ omega arith
+      ▹ omega arith
+      ▹ again-turned atMost n (lefts n) 21 (Connecting t) 0 (λ more. omega arith) (λ last. omega arith)
+      ▹ omega arith
+  rows l (Contacting t) v =
+      omega arith
+      ▹ omega arith
+      ▹ omega arith
+      ▹ again-turned atMost n (lefts n) 155 (Contacting t) 0 (λ more. omega arith) (λ last. omega arith)
+      ▹ judged-case (Turned atMost (lefts n) (Contacting t) (n + 1)) l v (omega arith) (omega arith)
+      ▹ omega arith
+  rows l Open v = omega arith
+  rows l (Lost t) v =
+      omega arith
+      ▹ omega arith
+      ▹ omega arith
+      ▹ again-turned atMost n (lefts n) 21 (Lost t) 0 (λ more. omega arith) (λ last. omega arith)
+      ▹ omega arith
+  rows l (Ending t) v =
+      omega arith
+      ▹ omega arith
+      ▹ omega arith
+      ▹ again-turned atMost n (lefts n) 156 (Ending t) 0 (λ more. omega arith) (λ last. omega arith)
+      ▹ omega arith
+
+  -- so do an order and a call
+  pub lefts-balanced : Balanced atMost n (lefts n)
+  lefts-balanced =
+      record { ordered = omega arith; called = omega arith; closings = closings; turns = turns-by-row atMost n (lefts n) rows }
+
+module _ (n : ℕ) (p : Partner) where
+  -- something is left in every phase
+  left-some : (ph : Phase) → 1 ≤ left n ph
+  left-some (Connecting t) = omega arith
+  left-some (Contacting t) = omega arith
+  left-some Open = omega arith
+  left-some (Lost t) = omega arith
+  left-some (Ending t) = omega arith
+
+  -- so to a partner that holds a place
+  pub held-left : (ps : List Place) → weigh (here (holds p)) ps ≤ leftTo n p ps
+  unfolding weigh
+  held-left [] = omega arith
+  held-left (place ∷ ps) =
+      let first = by (place .holding) in
+      let rest = held-left ps in
+      omega arith
+    where
+      by-test : (b : Bool) (v : ℕ) → 1 ≤ v → once b ≤ cond b v 0
+      by-test true v h = h
+      by-test false v h = omega arith
+
+      by : (k : Holding) → once (holdsIn p k) ≤ weightIn (lefts n) (samePartner p) k
+      by Free = omega arith
+      by (Held d ph q) = by-test (samePartner p q) (left n ph) (left-some ph)
+
+  -- to one that holds none, nothing
+  pub none-left : (ps : List Place) → weigh (here (holds p)) ps ≡ 0 → leftTo n p ps ≡ 0
+  unfolding weigh
+  none-left [] h = refl
+  none-left (place ∷ ps) h =
+      let first = by (place .holding) (omega arith) in
+      let rest = none-left ps (omega arith) in
+      omega arith
+    where
+      by-test : (b : Bool) (v : ℕ) → once b ≡ 0 → cond b v 0 ≡ 0
+      by-test true v h = absurd (omega arith)
+      by-test false v h = refl
+
+      by : (k : Holding) → once (holdsIn p k) ≡ 0 → weightIn (lefts n) (samePartner p) k ≡ 0
+      by Free h = refl
+      by (Held d ph q) h = by-test (samePartner p q) (left n ph) h
+
+  module _ (some-try : 1 ≤ n) where
+    -- tries in their range are one at the least
+    tried : (t : ℕ) (a c : Bool) → (1 + (n - t)) + 1 ≤ (n + 1) + cond (a && ((leb 1 t && leb t n) && c)) 0 1
+    tried t a c =
+        let within = leb 1 t && leb t n in
+        cond-case (λ w. (1 + (n - t)) + 1 ≤ (n + 1) + w) (a && (within && c)) 0 1
+        (λ ok.
+        let some = leb-true 1 t (and-left (leb 1 t) (leb t n) (and-left within c (and-right a (within && c) ok))) in
+        omega arith)
+        (λ other. omega arith)
+
+    -- so has each phase, or its place is not sound
+    phase-left : (d : Direction) (ph : Phase) (q : Partner) → left n ph + one (waitingPhase ph) ≤ (n + 1) + bad n (seat d ph q)
+    phase-left d (Connecting t) q = tried t (partnerOk q) (directionOk d (Connecting t) q)
+    phase-left d (Contacting t) q = tried t (partnerOk q) (directionOk d (Contacting t) q)
+    phase-left d Open q = omega arith
+    phase-left d (Lost t) q = tried t (partnerOk q) (directionOk d (Lost t) q)
+    phase-left d (Ending t) q = tried t (partnerOk q) (directionOk d (Ending t) q)
+
+    -- to a partner that waits one less is left than to one that does not
+    waits-left : (ps : List Place) → leftTo n p ps + weigh (here (λ place. waitsIn p (place .holding))) ps ≤ (n + 1) * weigh (here (holds p)) ps + weigh (bad n) ps
+    unfolding weigh
+    waits-left [] = omega arith
+    waits-left (place ∷ ps) =
+        let first = by (place .holding) in
+        let rest = waits-left ps in
+        omega arith
+      where
+        by-test : (b w : Bool) (v k : ℕ) → v + one w ≤ (n + 1) + k → cond b v 0 + one (b && w) ≤ (n + 1) * one b + k
+        by-test true w v k h = omega arith
+        by-test false w v k h = omega arith
+
+        by : (k : Holding) → weightIn (lefts n) (samePartner p) k + one (waitsIn p k) ≤ (n + 1) * one (holdsIn p k) + bad n (record { holding = k })
+        by Free = omega arith
+        by (Held d ph q) = by-test (samePartner p q) (waitingPhase ph) (left n ph) (bad n (seat d ph q)) (phase-left d ph q)
+
+    -- and it has a place that waits
+    waits-some : (ps : List Place) → waits p ps ≡ true → 1 ≤ weigh (here (λ place. waitsIn p (place .holding))) ps
+    unfolding waits weigh
+    waits-some [] h = true-false false h refl
+    waits-some (place ∷ ps) h = by (waitsIn p (place .holding)) h (waits-some ps)
+      where
+        by : (b : Bool) → (b || waits p ps) ≡ true → (waits p ps ≡ true → 1 ≤ weigh (here (λ place. waitsIn p (place .holding))) ps) → 1 ≤ one b + weigh (here (λ place. waitsIn p (place .holding))) ps
+        by true h above = omega arith
+        by false h above =
+            let rest = above h in
+            omega arith
+
+    -- one place at the most, so one
+    lone : (held w : ℕ) → held ≤ 1 → w + 1 ≤ (n + 1) * held → (held ≡ 1) × (w ≤ n)
+    lone zero w few h = absurd (omega arith)
+    lone (suc zero) w few h = (refl, omega arith)
+    lone (suc (suc held)) w few h = absurd (omega arith)
+
+    -- one that waits in a sound state has one place, and no more than the limit is left to it
+    pub waiting-left : (ps : List Place) → PlacesFacts n ps → waits p ps ≡ true → (weigh (here (holds p)) ps ≡ 1) × (leftTo n p ps ≤ n)
+    waiting-left ps facts h =
+        let none = facts .0 in
+        let some = waits-some ps h in
+        let most = waits-left ps in
+        lone (weigh (here (holds p)) ps) (leftTo n p ps) (facts .1 p) (omega arith)

@@ -1,0 +1,17 @@
+pub mod Rows
+pub mod Balances
+pub mod Scales
+pub mod Accounts
+pub mod Bytes
+pub mod Counted
+pub mod Along
+pub mod Bounds
+pub mod TakenIn
+pub mod Silence
+pub mod Left
+pub mod Timeouts
+pub mod Waiting
+pub mod Tries
+pub mod Leads
+pub mod Sessions
+pub mod Reached

@@ -1,0 +1,93 @@
+-- A partner that is named by nothing but timeouts is brought nothing: its account only goes down.
+-- Defines: quiet. Proves: received-none, silent-none; silent-step, silent-account.
+use mathlib.Core.Path.{_≡_, refl}
+use mathlib.Core.Bool.{Bool, true, false, cond, _&&_, _||_, not}
+use mathlib.Core.List.{List, [], _∷_}
+use Prim.Native.Nat.{ℕ, _+_}
+use native.Mathlib.Omega.{arith}
+use lib.Dec.{eqb}
+use Rattle.record.specs.Partners.{samePartner}
+use Rattle.record.specs.Records.{reading}
+use Rattle.record.specs.Refusals.{accepted}
+use Rattle.record.specs.declared.partner.Partner.{Partner}
+use Rattle.record.specs.declared.event.PartnerEvent.{PartnerEvent}
+use Rattle.record.specs.declared.event.PartnerEvent.the-variants.{Drop, Up, Loss, Timeout, Version, Ended}
+use Rattle.record.specs.declared.event.Event.{Event}
+use Rattle.record.specs.declared.event.Event.the-variants.{Level, Mission, Mode, Hole, Order, EndAll, Call, Named}
+use Rattle.record.specs.declared.event.Reading.{Reading}
+use Rattle.record.specs.declared.event.Reading.the-variants.{Meant, Refused}
+use Rattle.record.proofs.Tests.{and-left, and-right, true-false}
+use Rattle.unit.specs.Steps.{Outcome}
+use Rattle.unit.specs.OnRecords.{actionRoom, onRecord}
+use Rattle.unit.specs.declared.state.State.{State}
+use Rattle.history.specs.Histories.{after, summed, count, eventNames, isTimeout, eventTimeout, ofReading, names, timeoutFor, silent}
+use Rattle.history.proofs.Balances.{Sense, Balance, moved}
+use Rattle.history.proofs.Scales.{Scale, Balanced, brings, counted, nothing}
+use Rattle.history.proofs.Accounts.{total, brought, ofMeant, received, record-account, history-account}
+
+-- the record names the partner by a timeout, or not at all
+abbrev pub quiet : Partner → List ℕ → Bool
+quiet p bytes = not (names p bytes) || timeoutFor p bytes
+
+module _ (σ : Scale) (p : Partner) (free : brings σ Timeout ≡ 0) where
+  -- an event that does not name the partner brings it nothing
+  unnamed : (b : Bool) (v : ℕ) → (not b || false) ≡ true → cond b v 0 ≡ 0
+  unnamed true v h = true-false false h refl
+  unnamed false v h = refl
+
+  -- nor does a timeout
+  only-timeout : (e : PartnerEvent) → isTimeout e ≡ true → brings σ e ≡ 0
+  only-timeout Drop h = true-false false h refl
+  only-timeout Up h = true-false false h refl
+  only-timeout Loss h = true-false false h refl
+  only-timeout Timeout h = free
+  only-timeout (Version v) h = true-false false h refl
+  only-timeout Ended h = true-false false h refl
+
+  timed-out : (b : Bool) (e : PartnerEvent) → (not b || (b && isTimeout e)) ≡ true → cond b (brings σ e) 0 ≡ 0
+  timed-out true e h = only-timeout e h
+  timed-out false e h = refl
+
+  -- so no event and no record that is quiet brings anything
+  event-brings : (e : Event) → (not (eventNames p e) || eventTimeout p e) ≡ true → brought σ (samePartner p) e ≡ 0
+  event-brings (Level level manual) h = refl
+  event-brings (Mission mission) h = refl
+  event-brings Mode h = refl
+  event-brings (Hole entered) h = refl
+  event-brings (Order q accepting cause) h = unnamed (samePartner p q) (σ .order) h
+  event-brings EndAll h = refl
+  event-brings (Call q) h = unnamed (samePartner p q) (σ .call) h
+  event-brings (Named q e) h = timed-out (samePartner p q) e h
+
+  record-brings : (bytes : List ℕ) → quiet p bytes ≡ true → ofMeant (brought σ (samePartner p)) (reading bytes) ≡ 0
+  record-brings bytes = by (reading bytes)
+    where
+      by : (r : Reading) → (not (ofReading (eventNames p) r) || ofReading (eventTimeout p) r) ≡ true → ofMeant (brought σ (samePartner p)) r ≡ 0
+      by (Meant e) h = event-brings e h
+      by (Refused r) h = refl
+
+  pub received-none : (bytes : List ℕ) → quiet p bytes ≡ true → (o : Outcome) → received σ (samePartner p) bytes o ≡ 0
+  received-none bytes h o = rw (record-brings bytes h) (nothing (eqb (o .code) accepted))
+
+  -- nor a history of them
+  pub silent-none : (n : ℕ) (s : State) (history : List (List ℕ)) → silent p history ≡ true → summed (received σ (samePartner p)) n s history ≡ 0
+  unfolding silent summed
+  silent-none n s [] h = refl
+  silent-none n s (bytes ∷ history) h =
+      let o = onRecord n s bytes actionRoom in
+      let first = received-none bytes (and-left (quiet p bytes) (silent p history) h) o in
+      let rest = silent-none n (o .state) history (and-right (quiet p bytes) (silent p history) h) in
+      omega arith
+
+  module _ (m : Sense) (n : ℕ) (balanced : Balanced m n σ) (s : State) where
+    -- the step on such a record
+    pub silent-step : (bytes : List ℕ) → quiet p bytes ≡ true → Balance m (count (counted σ (samePartner p)) (onRecord n s bytes actionRoom .actions) + total σ (samePartner p) (onRecord n s bytes actionRoom .state .places)) (total σ (samePartner p) (s .places))
+    silent-step bytes h =
+        let none = received-none bytes h (onRecord n s bytes actionRoom) in
+        moved m _ _ _ _ refl (omega arith) (record-account m n σ balanced (samePartner p) s bytes)
+
+    -- and a history of them
+    pub silent-account : (history : List (List ℕ)) → silent p history ≡ true → Balance m (summed (λ bytes o. count (counted σ (samePartner p)) (o .actions)) n s history + total σ (samePartner p) (after n s history .places)) (total σ (samePartner p) (s .places))
+    silent-account history h =
+        let none = silent-none n s history h in
+        moved m _ _ _ _ refl (omega arith) (history-account m n σ balanced (samePartner p) s history)

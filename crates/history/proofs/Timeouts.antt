@@ -1,0 +1,112 @@
+-- A timeout that names a partner that waits has an action for it: the next try, or its release.
+-- Proves: timeout-acts.
+use mathlib.Core.Path.{_≡_, refl, subst}
+use mathlib.Core.Bool.{true, false, cond}
+use mathlib.Core.List.{List, [], _∷_}
+use Prim.Native.Nat.{ℕ, _≤_}
+use native.Mathlib.Omega.{arith}
+use lib.Dec.{ltb}
+use lib.ListN.{getD}
+use Rattle.record.specs.Partners.{samePartner}
+use Rattle.record.specs.Records.{reading}
+use Rattle.record.specs.declared.partner.Partner.{Partner}
+use Rattle.record.specs.declared.event.PartnerEvent.{PartnerEvent}
+use Rattle.record.specs.declared.event.PartnerEvent.the-variants.{Drop, Up, Loss, Timeout, Version, Ended}
+use Rattle.record.specs.declared.event.Event.{Event}
+use Rattle.record.specs.declared.event.Event.the-variants.{Level, Mission, Mode, Hole, Order, EndAll, Call, Named}
+use Rattle.record.specs.declared.event.Reading.{Reading}
+use Rattle.record.specs.declared.event.Reading.the-variants.{Meant, Refused}
+use Rattle.record.proofs.Tests.{and-left, and-right, cond-holds, true-false, same-refl, same-eq}
+use Rattle.place.specs.Places.{vacant, holdsIn, tries}
+use Rattle.place.specs.Table.{release, again, oneMore, turn, holdingTurn}
+use Rattle.place.specs.declared.phase.Phase.{Phase}
+use Rattle.place.specs.declared.phase.Phase.the-variants.{Connecting, Contacting, Open, Lost, Ending}
+use Rattle.place.specs.declared.seat.Holding.{Holding}
+use Rattle.place.specs.declared.seat.Holding.the-variants.{Free, Held}
+use Rattle.place.specs.declared.turn.Turn.the-variants.{Released, Sends}
+use Rattle.unit.specs.States.{seek, sound}
+use Rattle.unit.specs.Steps.{act, turned, namedAt, step}
+use Rattle.unit.specs.OnRecords.{actionRoom, onReading, onRecord}
+use Rattle.unit.specs.declared.state.State.{State}
+use Rattle.unit.specs.declared.state.Found.{Found}
+use Rattle.unit.specs.declared.state.Found.the-variants.{At, Vacant, Full}
+use Rattle.unit.specs.declared.answer.Action.{Action}
+use Rattle.unit.proofs.Weights.{weigh-at}
+use Rattle.unit.proofs.Searches.{FoundOk, seek-ok}
+use Rattle.history.specs.Histories.{count, isTimeout, eventTimeout, ofReading, timeoutFor}
+use Rattle.history.proofs.Scales.{weightIn, weightOf, counted}
+use Rattle.history.proofs.Left.{left, lefts, leftTo, none-left}
+
+module _ (n : ℕ) (p : Partner) where
+  -- the actions for this partner
+  own : List Action → ℕ
+  own acts = count (counted (lefts n) (samePartner p)) acts
+
+  -- an action for it is one of them
+  own-action : (number : ℕ) → 1 ≤ own (act p number ∷ [])
+  unfolding own count
+  own-action number = rw (same-refl p) (omega arith)
+
+  -- something is left to it, and no more than the limit
+  module _ (s : State) (some : 1 ≤ leftTo n p (s .places)) (few : leftTo n p (s .places) ≤ n) where
+    -- its place is not Open, and every other phase has an action for a timeout
+    place-acts : (i : ℕ) (k : Holding) → holdsIn p k ≡ true → weightIn (lefts n) (samePartner p) k ≤ n → 1 ≤ own (turned s i p (holdingTurn n (s .limits) k Timeout) .actions)
+    unfolding turn
+    place-acts i Free h w = true-false false h refl
+    place-acts i (Held d ph q) h w = by ph (subst (λ b. cond b (left n ph) 0 ≤ n) h w)
+      where
+        retried : (number : ℕ) (ph : Phase) → 1 ≤ own (turned s i p (again n number ph) .actions)
+        retried number ph =
+            cond-holds (λ t. 1 ≤ own (turned s i p t .actions)) (ltb (tries ph) n) (Sends number (oneMore ph)) Released
+            (own-action number)
+            (own-action release)
+
+        by : (ph : Phase) → left n ph ≤ n → 1 ≤ own (turned s i p (turn n (s .limits) ph Timeout) .actions)
+        by (Connecting t) w = retried 21 (Connecting t)
+        by (Contacting t) w = retried 155 (Contacting t)
+        by Open w = absurd (omega arith)
+        by (Lost t) w = retried 21 (Lost t)
+        by (Ending t) w = retried 156 (Ending t)
+
+    -- it has a place
+    named-acts : (found : Found) → FoundOk p (s .places) found → 1 ≤ own (namedAt n s p Timeout found .actions)
+    named-acts (At i) at =
+        let place = getD (s .places) i vacant in
+        let less = weigh-at (weightOf (lefts n) (samePartner p)) (s .places) i (at .0) in
+        place-acts i (place .holding) (at .1) (omega arith)
+    named-acts (Vacant i) at =
+        let none = none-left n p (s .places) (at .2) in
+        absurd (omega arith)
+    named-acts Full at =
+        let none = none-left n p (s .places) (at .1) in
+        absurd (omega arith)
+
+    -- the event is a timeout that names it
+    event-acts : (e : Event) → eventTimeout p e ≡ true → 1 ≤ own (step n s e .actions)
+    unfolding step
+    event-acts (Level level manual) h = true-false false h refl
+    event-acts (Mission mission) h = true-false false h refl
+    event-acts Mode h = true-false false h refl
+    event-acts (Hole entered) h = true-false false h refl
+    event-acts (Order q accepting cause) h = true-false false h refl
+    event-acts EndAll h = true-false false h refl
+    event-acts (Call q) h = true-false false h refl
+    event-acts (Named q e) h =
+        by e (and-right (samePartner p q) (isTimeout e) h) (same-eq p q (and-left (samePartner p q) (isTimeout e) h))
+      where
+        by : (e : PartnerEvent) → isTimeout e ≡ true → p ≡ q → 1 ≤ own (namedAt n s q e (seek q (s .places)) .actions)
+        by Drop h same = true-false false h refl
+        by Up h same = true-false false h refl
+        by Loss h same = true-false false h refl
+        by Timeout h same = rw (← same) (named-acts (seek p (s .places)) (seek-ok p (s .places)))
+        by (Version v) h same = true-false false h refl
+        by Ended h same = true-false false h refl
+
+    -- the record reads as such an event
+    pub timeout-acts : sound n s ≡ true → (bytes : List ℕ) → timeoutFor p bytes ≡ true → 1 ≤ count (counted (lefts n) (samePartner p)) (onRecord n s bytes actionRoom .actions)
+    unfolding onRecord own
+    timeout-acts ok bytes h = rw ok (by (reading bytes) h)
+      where
+        by : (r : Reading) → ofReading (eventTimeout p) r ≡ true → 1 ≤ own (onReading n s r .actions)
+        by (Meant e) h = event-acts e h
+        by (Refused r) h = true-false false h refl

@@ -1,0 +1,98 @@
+-- Document 01, "Worth of each promise": "the histories that reach them", from a cold start with X 1 to 2 and with one partner, RBC 5.
+-- Defines: started, rbc5, its records; retries, lossesIn, closed; ordering, calling; repeated, reaching; Tally, tally, counts; oneToNine.
+use Prim.Native.Nat.{ℕ, zero, suc, _-_}
+use mathlib.Core.List.{List, [], _∷_, _++_}
+use lib.ListN.{replicate}
+use Rattle.record.specs.Partners.{rbc}
+use Rattle.record.specs.declared.partner.Partner.{Partner}
+use Rattle.unit.specs.States.{coldStart}
+use Rattle.unit.specs.declared.state.State.{State}
+use Rattle.history.specs.Histories.{orders, calls, losses, actions}
+
+-- the state of the cold start
+abbrev pub started : State
+started = coldStart (record { lowest = 1; highest = 2 }) .state
+
+-- the partner "RBC 5"
+abbrev pub rbc5 : Partner
+rbc5 = record { kind = rbc; high = 0; middle = 0; low = 5 }
+
+-- the records that name RBC 5: order with cause 1, drop, up, lost, timeout, and the messages 32 with version 17, 38, 39
+abbrev pub order5 : List ℕ
+order5 = 5 ∷ 0 ∷ 0 ∷ 0 ∷ 5 ∷ 1 ∷ 1 ∷ []
+
+abbrev pub drop5 : List ℕ
+drop5 = 6 ∷ 0 ∷ 0 ∷ 0 ∷ 5 ∷ []
+
+abbrev pub up5 : List ℕ
+up5 = 8 ∷ 0 ∷ 0 ∷ 0 ∷ 5 ∷ []
+
+abbrev pub lost5 : List ℕ
+lost5 = 9 ∷ 0 ∷ 0 ∷ 0 ∷ 5 ∷ []
+
+abbrev pub timeout5 : List ℕ
+timeout5 = 10 ∷ 0 ∷ 0 ∷ 0 ∷ 5 ∷ []
+
+abbrev pub version5 : List ℕ
+version5 = 11 ∷ 0 ∷ 0 ∷ 0 ∷ 5 ∷ 32 ∷ 17 ∷ []
+
+abbrev pub call5 : List ℕ
+call5 = 11 ∷ 0 ∷ 0 ∷ 0 ∷ 5 ∷ 38 ∷ 0 ∷ []
+
+abbrev pub ended5 : List ℕ
+ended5 = 11 ∷ 0 ∷ 0 ∷ 0 ∷ 5 ∷ 39 ∷ 0 ∷ []
+
+-- all tries of a phase but the first
+abbrev pub retries : ℕ → List (List ℕ)
+retries n = replicate (n - 1) timeout5
+
+-- an open session lost and won back as late as can be, so many times
+unfoldable pub lossesIn : ℕ → ℕ → List (List ℕ)
+lossesIn n zero = []
+lossesIn n (suc c) = lost5 ∷ (retries n ++ (up5 ∷ lossesIn n c))
+
+-- an open session ended as late as can be
+abbrev pub closed : ℕ → List (List ℕ)
+closed n = drop5 ∷ (retries n ++ (ended5 ∷ []))
+
+-- one order, or one call, and c losses; "P10" is `ordering 3 0`
+unfoldable pub ordering : ℕ → ℕ → List (List ℕ)
+ordering n c = order5 ∷ (retries n ++ (up5 ∷ (retries n ++ (version5 ∷ (lossesIn n c ++ closed n)))))
+
+unfoldable pub calling : ℕ → ℕ → List (List ℕ)
+calling n c = call5 ∷ (lossesIn n c ++ closed n)
+
+-- a history so many times
+unfoldable pub repeated : ℕ → List (List ℕ) → List (List ℕ)
+repeated zero history = []
+repeated (suc k) history = history ++ repeated k history
+
+-- a orders, b calls and c losses, all losses in the first session; without a session there is no loss
+unfoldable pub reaching : ℕ → ℕ → ℕ → ℕ → List (List ℕ)
+reaching n zero zero c = []
+reaching n zero (suc b) c = calling n c ++ repeated b (calling n 0)
+reaching n (suc a) b c = ordering n c ++ (repeated a (ordering n 0) ++ repeated b (calling n 0))
+
+-- what demand 3 counts in a history
+pub record Tally : Type 0 where
+  pub orders : ℕ
+  pub calls : ℕ
+  pub losses : ℕ
+  pub actions : ℕ
+
+unfoldable pub tally : ℕ → List (List ℕ) → Tally
+tally n history =
+    record {
+      orders = orders n started history;
+      calls = calls n started history;
+      losses = losses n started history;
+      actions = actions n started history;
+    }
+
+-- a orders, b calls, c losses and k actions
+abbrev pub counts : ℕ → ℕ → ℕ → ℕ → Tally
+counts a b c k = record { orders = a; calls = b; losses = c; actions = k }
+
+-- the limits of tries that are tried one by one
+abbrev pub oneToNine : List ℕ
+oneToNine = 1 ∷ 2 ∷ 3 ∷ 4 ∷ 5 ∷ 6 ∷ 7 ∷ 8 ∷ 9 ∷ []

@@ -1,0 +1,145 @@
+// The program `sheet`: a log from standard input, its sheet to standard output.
+use libc::STDIN_FILENO;
+use libc::STDOUT_FILENO;
+use place::turn::Limits;
+use record::event::Reading;
+use record::read::byte_at;
+use record::read::read;
+use run::Taken;
+use run::run;
+use run::take_one;
+use text::end_into;
+use text::line_into;
+use unit::answer::Answer;
+use unit::state::State;
+use unit::state::cold_start;
+
+// The longest input, the budget of records, and room for the longest line.
+const MOST_BYTES: usize = 4096;
+
+const BUDGET: usize = 4096;
+
+const LINE_ROOM: usize = 192;
+
+// The sheet so far: the state, the offset reached, and the records printed.
+struct Page {
+    state: State,
+    at: usize,
+    number: u32,
+}
+
+// One byte of the input, or its end.
+enum Input {
+    Byte(u8),
+    End,
+}
+
+fn next_byte() -> Input {
+    let mut one = [0u8; 1];
+    let got = libc::read(STDIN_FILENO, &mut one);
+    if got == 1 {
+        Input::Byte(one[0])
+    } else {
+        Input::End
+    }
+}
+
+// Reads until the buffer is full or nothing more comes, however it arrives, and answers how much came.
+fn fill(buffer: &mut [u8]) -> usize {
+    let mut at = 0;
+    loop {
+        if at >= buffer.len() {
+            break at;
+        }
+        match next_byte() {
+            Input::Byte(b) => {
+                buffer[at] = b;
+                at += 1;
+            }
+            Input::End => {
+                break at;
+            }
+        }
+    }
+}
+
+fn write_line(line: &[u8], used: usize) {
+    if used <= line.len() {
+        io::write_all(STDOUT_FILENO, &line[..used]);
+    }
+}
+
+// What the box answers to a record.
+fn answer_to(state: State, bytes: &[u8]) -> Answer {
+    match read(bytes) {
+        Reading::Meant(event) => state.step(event),
+        Reading::Refused(code) => Answer::refused(code, state),
+    }
+}
+
+impl Page {
+    // Prints the line of the record that stands next, if one stands whole.
+    fn next(self, log: &[u8]) -> Page {
+        let at = self.at;
+        let state = self.state;
+        let Taken::Whole(length) = take_one(log, at) else {
+            return self;
+        };
+        if at > log.len() {
+            return self;
+        }
+        if log.len() - at < length {
+            return self;
+        }
+        let end = at + length;
+        let answer = answer_to(state, &log[at..end]);
+        let number = self.number % 4096 + 1;
+        let mut line = [0u8; 192];
+        let actions = answer.actions;
+        let used = line_into(&mut line, number, byte_at(log, at), answer.code, actions);
+        write_line(&line, used);
+        let next = answer.state;
+        Page {
+            state: next,
+            at: end,
+            number,
+        }
+    }
+}
+
+fn print(log: &[u8]) {
+    io::write_all(STDOUT_FILENO, b"rec kind code actions\n");
+    let start = cold_start(Limits {
+        lowest: 1,
+        highest: 2,
+    });
+    let state = start.state;
+    let report = run(state, log, BUDGET);
+    let read = report.tally.read;
+    let mut page = Page {
+        state,
+        at: 0,
+        number: 0,
+    };
+    let mut left = read;
+    while left > 0 {
+        page = page.next(log);
+        left -= 1;
+    }
+    let mut line = [0u8; 192];
+    let used = end_into(&mut line, report.stop, read);
+    write_line(&line, used);
+}
+
+// The whole program.
+pub fn sheet() {
+    let mut input = [0u8; 4097];
+    let n = fill(&mut input);
+    if n > MOST_BYTES {
+        io::write_all(STDOUT_FILENO, b"too long\n");
+        return;
+    }
+    if n <= input.len() {
+        print(&input[..n]);
+    }
+}
