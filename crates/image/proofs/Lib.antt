@@ -2,3 +2,4 @@ pub mod Bytes
 pub mod RoundTrips
 pub mod Putting
 pub mod Taking
+pub mod OneAnswer

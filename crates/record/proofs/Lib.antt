@@ -3,3 +3,4 @@ pub mod Ranges
 pub mod ByKind
 pub mod Blocks
 pub mod Padded
+pub mod OneAnswer

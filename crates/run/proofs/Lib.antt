@@ -5,3 +5,4 @@ pub mod Going
 pub mod Starting
 pub mod Steps
 pub mod Codes
+pub mod OneAnswer

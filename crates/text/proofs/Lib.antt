@@ -1,3 +1,4 @@
 pub mod Numbers
 pub mod Pushing
 pub mod Room
+pub mod OneAnswer

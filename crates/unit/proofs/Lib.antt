@@ -11,3 +11,4 @@ pub mod Answers
 pub mod Sweeps
 pub mod Written
 pub mod Bytewise
+pub mod OneAnswer

@@ -1,0 +1,79 @@
+// Prints the image of a mixed state in hex, and what reading it answers.
+use image::read_image;
+use image::write_image;
+use libc::STDOUT_FILENO;
+use place::phase::Phase;
+use place::seat::Direction;
+use place::seat::Place;
+use place::turn::Limits;
+use record::partner::Partner;
+use record::read::byte_at;
+use unit::state::Marks;
+use unit::state::State;
+use unit::state::Train;
+
+fn mixed() -> State {
+    let lost = Partner {
+        kind: 0,
+        high: 1,
+        middle: 2,
+        low: 3,
+    };
+    let infill = Partner {
+        kind: 1,
+        high: 0,
+        middle: 0,
+        low: 2,
+    };
+    let open = Partner {
+        kind: 0,
+        high: 0,
+        middle: 0,
+        low: 5,
+    };
+    State {
+        limits: Limits {
+            lowest: 1,
+            highest: 2,
+        },
+        train: Train {
+            level: 2,
+            mission: 1,
+        },
+        marks: Marks {
+            inside: false,
+            mode: true,
+            manual: true,
+            end: false,
+        },
+        places: [
+            Place::held(Direction::Incoming, Phase::Lost(2), lost),
+            Place::free(),
+            Place::held(Direction::Outgoing, Phase::Contacting(3), infill),
+            Place::held(Direction::Outgoing, Phase::Open, open),
+        ],
+    }
+}
+
+fn print_byte(b: u8) {
+    io::print_hex(STDOUT_FILENO, b as u64, 2);
+    io::write_all(STDOUT_FILENO, b" ");
+}
+
+fn print_image(image: &[u8]) {
+    let mut i = 0;
+    while i < 37 {
+        print_byte(byte_at(image, i));
+        i += 1;
+    }
+}
+
+fn main() {
+    let mut buffer = [0u8; 37];
+    let stored = write_image(mixed(), &mut buffer);
+    print_image(&buffer);
+    let again = read_image(&buffer);
+    print_byte(stored.code);
+    print_byte(again.code);
+    io::write_all(STDOUT_FILENO, b"\n");
+}
