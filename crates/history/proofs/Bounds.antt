@@ -108,6 +108,7 @@ module _ (n : ℕ) (some-try : 1 ≤ n) where
       omega arith
 
   -- from a cold start, no more actions than these
+  -- promise
   pub bound : (l : Limits) → coldStart l .code ≡ accepted → (history : List (List ℕ)) → actions n (coldStart l .state) history ≤ perOrder n * orders n (coldStart l .state) history + perCall n * calls n (coldStart l .state) history + perLoss n * losses n (coldStart l .state) history
   bound l started history =
       let most = bound-from (coldStart l .state) history in
@@ -124,8 +125,10 @@ module _ (n : ℕ) (some-try : 1 ≤ n) where
       omega arith
 
 -- with the three tries of document 01
+-- promise
 pub demand-bound : (l : Limits) → coldStart l .code ≡ accepted → (history : List (List ℕ)) → actions tryLimit (coldStart l .state) history ≤ 11 * orders tryLimit (coldStart l .state) history + 5 * calls tryLimit (coldStart l .state) history + 3 * losses tryLimit (coldStart l .state) history
 demand-bound = bound tryLimit (omega arith)
 
+-- promise
 pub demand-bound-of : (p : Partner) (l : Limits) → coldStart l .code ≡ accepted → (history : List (List ℕ)) → actionsOf p tryLimit (coldStart l .state) history ≤ 11 * ordersOf p tryLimit (coldStart l .state) history + 5 * callsOf p tryLimit (coldStart l .state) history + 3 * lossesOf p tryLimit (coldStart l .state) history
 demand-bound-of = bound-of tryLimit (omega arith)

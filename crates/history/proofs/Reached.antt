@@ -58,6 +58,7 @@ reached n some-try a b c h =
     }
 
 -- with the three tries of document 01
+-- promise
 pub demand-reached : (a b c : ℕ) → (c ≡ 0) ⊎ (0 < a + b) → tally tryLimit (reaching tryLimit a b c) ≡ counts a b c (11 * a + 5 * b + 3 * c)
 demand-reached = reached tryLimit (omega arith)
 
@@ -67,11 +68,13 @@ unfolding ordering lossesIn examples
 p10-records = refl
 
 -- by computation: one order; one call; one call and one loss
+-- promise
 pub one-each : map (tally tryLimit) (ordering tryLimit 0 ∷ calling tryLimit 0 ∷ calling tryLimit 1 ∷ []) ≡ counts 1 0 0 11 ∷ counts 0 1 0 5 ∷ counts 0 1 1 8 ∷ []
 unfolding reading turn first seek placesOk sound cold coldStart shut shutting step onRecord summed lossesIn ordering calling tally
 one-each = refl
 
 -- the same for every limit of tries from 1 to 9
+-- promise
 pub one-each-to-nine : map (λ n. tally n (ordering n 0) ∷ tally n (calling n 0) ∷ tally n (calling n 1) ∷ []) oneToNine ≡ map (λ n. counts 1 0 0 (perOrder n) ∷ counts 0 1 0 (perCall n) ∷ counts 0 1 1 (perCall n + perLoss n) ∷ []) oneToNine
 unfolding reading turn first seek placesOk sound cold coldStart shut shutting step onRecord summed lossesIn ordering calling tally
 one-each-to-nine = refl
@@ -85,6 +88,7 @@ retries-name (suc k) =
     (rest .0, omega arith)
 
 -- one timeout less than those of a waiting partner's release does not release it
+-- promise
 pub not-sooner : (n : ℕ) → 1 ≤ n → (waits rbc5 (after n started (order5 ∷ []) .places) ≡ true) × (silent rbc5 (retries n) ≡ true) × (timeouts rbc5 (retries n) + 1 ≡ timeoutsToRelease n) × (holdsPlace rbc5 (after n (after n started (order5 ∷ [])) (retries n) .places) ≡ true)
 unfolding reading first seek placesOk sound cold coldStart shut shutting step onRecord after waits holdsPlace
 not-sooner n some-try =

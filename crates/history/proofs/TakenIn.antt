@@ -87,5 +87,6 @@ taken-in n some-try l started history =
     omega arith
 
 -- with the three tries of document 01
+-- promise
 pub demand-taken-in : (l : Limits) → coldStart l .code ≡ accepted → (history : List (List ℕ)) → orders tryLimit (coldStart l .state) history + calls tryLimit (coldStart l .state) history ≡ releases tryLimit (coldStart l .state) history + placesHeld (after tryLimit (coldStart l .state) history .places)
 demand-taken-in = taken-in tryLimit (omega arith)

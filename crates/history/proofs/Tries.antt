@@ -49,5 +49,6 @@ module _ (n : ℕ) (some-try : 1 ≤ n) where
   cold-never-past l = never-past (coldStart l .state) (cold-sound n l)
 
 -- with the three tries of document 01
+-- promise
 pub demand-never-past : (l : Limits) (history : List (List ℕ)) (i : ℕ) → i < placeCount → heldTries (getD (after tryLimit (coldStart l .state) history .places) i vacant) ≤ 3
 demand-never-past = cold-never-past tryLimit (omega arith)

@@ -116,8 +116,10 @@ module _ (n : ℕ) (some-try : 1 ≤ n) (s : State) (ok : sound n s ≡ true) (p
       omega arith
 
 -- with the three tries of document 01
+-- promise
 pub demand-waiting : (s : State) → sound tryLimit s ≡ true → (p : Partner) → waits p (s .places) ≡ true → (history : List (List ℕ)) → silent p history ≡ true → 3 ≤ timeouts p history → holdsPlace p (after tryLimit s history .places) ≡ false
 demand-waiting = waiting tryLimit (omega arith)
 
+-- promise
 pub demand-released-once : (s : State) → sound tryLimit s ≡ true → (p : Partner) → waits p (s .places) ≡ true → (history : List (List ℕ)) → silent p history ≡ true → 3 ≤ timeouts p history → releasesOf p tryLimit s history ≡ 1
 demand-released-once = released-once tryLimit (omega arith)

@@ -32,6 +32,7 @@ body-read n s ok =
     (and-both (sound n s) (sameBytes (bodyBytes s) (bodyBytes s)) ok (same-bytes (bodyBytes s)))
 
 -- "what is written reads back"
+-- promise
 pub read-written : (n : ℕ) (s : State) → sound n s ≡ true → readImage n (imageOf s) ≡ record { code = accepted; state = s }
 unfolding readImage imageOf
 read-written n s ok =
@@ -47,6 +48,7 @@ not-accepted : (n : ℕ) (bytes : List ℕ) (k : ℕ) → (k ≡ accepted → �
 not-accepted n bytes k other h = absurd (other h)
 
 -- "each image that is read is the one its state writes"
+-- promise
 pub written-read : (n : ℕ) (bytes : List ℕ) → readImage n bytes .code ≡ accepted → (sound n (readImage n bytes .state) ≡ true) × (imageOf (readImage n bytes .state) ≡ bytes)
 unfolding readImage imageOf
 written-read n [] = λ h. absurd (omega arith)
@@ -72,6 +74,7 @@ abbrev pub placesAt : ℕ
 placesAt = 1 + headSize
 
 -- "A free place is seven zeros, and no other bytes mean free": in an image that is read, at every place
+-- promise
 pub read-free : (n : ℕ) (bytes : List ℕ) (i : ℕ) → readImage n bytes .code ≡ accepted → i < placeCount → (isFree (getD (readImage n bytes .state .places) i vacant) ≡ true) ↔ (take placeSize (drop (placesAt + placeSize * i) bytes) ≡ replicate placeSize 0)
 unfolding imageOf bodyBytes
 read-free n bytes i ok below = ((λ free. seven ∙ free-zeros (place .holding) free), (λ zeros. zeros-free (place .holding) (sym seven ∙ zeros)))

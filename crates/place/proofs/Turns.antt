@@ -98,6 +98,7 @@ module _ (n : ℕ) (some-try : 1 ≤ n) where
   row-sound l (Ending t) v = (tt, (tt, (tt, (again-sound 156 (Ending t), (tt, (tt, tt))))))
 
   -- a turn leads to a sound phase, and keeps "Connecting and Contacting are outgoing"
+  -- promise
   pub turn-sound : (l : Limits) (ph : Phase) (e : PartnerEvent) → NextSound n ph (turn n l ph e)
   turn-sound l = by-row (NextSound n) n l (row-sound l) (λ ph. tt)
 
@@ -142,6 +143,7 @@ row-fresh n l (Ending t) v =
     (tt, (tt, (tt, (again-fresh n 156 (Ending t) (eq-eqb (t + 1) (t + 1) refl), (tt, (tt, tt))))))
 
 -- no turn carries the old phase's tries into another phase
+-- promise
 pub turn-fresh : (n : ℕ) (l : Limits) (ph : Phase) (e : PartnerEvent) → onNext (λ q. fresh ph q ≡ true) (turn n l ph e)
 turn-fresh n l = by-row NextFresh n l (row-fresh n l) (λ ph. tt)
 
@@ -154,11 +156,13 @@ turn-few (Sends number q) = omega arith
 turn-few (SendsBoth first second q) = omega arith
 
 -- versions with the same X are judged alike
+-- promise
 pub judged-x : (l : Limits) (v w : ℕ) → v / 16 ≡ w / 16 → judged l v ≡ judged l w
 judged-x l v w same =
     ap (λ x. cond (leb (l .lowest) x && leb x (l .highest)) (Sends established Open) (SendsBoth incompatible terminate (Ending 1))) same
 
 -- an RBC's order ends sessions with RBCs only
+-- promise
 pub sessions-rbc : (ph : Phase) (p : Partner) → due Sessions ph p ≡ true → isRbc p ≡ true
 sessions-rbc ph p h = and-left (isRbc p) (inSession ph) h
 

@@ -84,6 +84,7 @@ bodies-ranged =
     )
     (λ s ok. true-false _ ok refl)
 
+-- promise
 pub reading-ok : (s : List ℕ) → readingOk (reading s) ≡ true
 unfolding reading
 reading-ok [] = refl

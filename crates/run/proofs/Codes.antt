@@ -106,6 +106,7 @@ steps-codes n some-try (suc budget) s (x ∷ log) good small =
         (rest k)
 
 -- "In every run that is not itself refused": from any state, whatever the log and the budget
+-- promise
 pub run-codes : (n : ℕ) → 1 ≤ n → (s : State) (log : List ℕ) (budget : ℕ) → run n s log budget .code ≡ refusal.accepted → allCodes (steps n budget s log) ≡ true
 unfolding run
 run-codes n some-try s log budget =

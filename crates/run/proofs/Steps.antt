@@ -80,36 +80,44 @@ module _ (n : ℕ) (s : State) (log : List ℕ) (budget : ℕ) (taken : run n s 
       ap (λ r. f (r .tally)) is-go ∙ go-sum f w each n budget (fresh s) log ∙ ap (λ x. x + sumOf w (steps n budget s log)) none ∙ zero-add (sumOf w (steps n budget s log))
 
   -- "Records read are the steps taken"
+  -- promise
   pub run-read : run n s log budget .tally .read ≡ length (steps n budget s log)
   unfolding the-steps counted
   run-read = summed (λ t. t .read) (λ o. 1) (λ t k o. refl) refl ∙ sum-one (steps n budget s log)
 
   -- those refused are the steps with a number
+  -- promise
   pub run-refused : run n s log budget .tally .refused ≡ sumOf (λ o. cond (eqb (o .code) refusal.accepted) 0 1) (steps n budget s log)
   unfolding the-steps counted
   run-refused = summed (λ t. t .refused) (λ o. cond (eqb (o .code) refusal.accepted) 0 1) (λ t k o. refl) refl
 
   -- "each total is the sum over those steps' actions"
+  -- promise
   pub run-request : run n s log budget .tally .totals .request ≡ sumOf (λ o. count request (o .actions)) (steps n budget s log)
   unfolding the-steps counted totalled
   run-request = summed (λ t. t .totals .request) (λ o. count request (o .actions)) (λ t k o. refl) refl
 
+  -- promise
   pub run-release : run n s log budget .tally .totals .release ≡ sumOf (λ o. count release (o .actions)) (steps n budget s log)
   unfolding the-steps counted totalled
   run-release = summed (λ t. t .totals .release) (λ o. count release (o .actions)) (λ t k o. refl) refl
 
+  -- promise
   pub run-incompatible : run n s log budget .tally .totals .incompatible ≡ sumOf (λ o. count incompatible (o .actions)) (steps n budget s log)
   unfolding the-steps counted totalled
   run-incompatible = summed (λ t. t .totals .incompatible) (λ o. count incompatible (o .actions)) (λ t k o. refl) refl
 
+  -- promise
   pub run-initiate : run n s log budget .tally .totals .initiate ≡ sumOf (λ o. count initiate (o .actions)) (steps n budget s log)
   unfolding the-steps counted totalled
   run-initiate = summed (λ t. t .totals .initiate) (λ o. count initiate (o .actions)) (λ t k o. refl) refl
 
+  -- promise
   pub run-terminate : run n s log budget .tally .totals .terminate ≡ sumOf (λ o. count terminate (o .actions)) (steps n budget s log)
   unfolding the-steps counted totalled
   run-terminate = summed (λ t. t .totals .terminate) (λ o. count terminate (o .actions)) (λ t k o. refl) refl
 
+  -- promise
   pub run-established : run n s log budget .tally .totals .established ≡ sumOf (λ o. count established (o .actions)) (steps n budget s log)
   unfolding the-steps counted totalled
   run-established = summed (λ t. t .totals .established) (λ o. count established (o .actions)) (λ t k o. refl) refl

@@ -118,6 +118,7 @@ module _ (n : ℕ) (s : State) (four : length (s .places) ≡ placeCount) where
   named-few p e (Vacant i) = omega arith
   named-few p e Full = omega arith
 
+  -- promise
   pub step-few : (e : Event) → length (step n s e .actions) ≤ mostActions
   unfolding step
   step-few (Level level manual) = omega arith
@@ -138,6 +139,7 @@ module _ (n : ℕ) (s : State) (four : length (s .places) ≡ placeCount) where
       (omega arith)
   step-few (Named p e) = named-few p e (seek p (s .places))
 
+-- promise
 pub onRecord-few : (n : ℕ) (s : State) (bytes : List ℕ) (room : ℕ) → length (onRecord n s bytes room .actions) ≤ mostActions
 unfolding onRecord
 onRecord-few n s bytes room =

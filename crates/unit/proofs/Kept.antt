@@ -58,6 +58,7 @@ module _ (n : ℕ) (s : State) where
   named-kept p e (Vacant i) = as-given refusal.hasNone
   named-kept p e Full = as-given refusal.hasNone
 
+  -- promise
   pub step-kept : (e : Event) → Kept s (step n s e)
   unfolding step
   step-kept (Level level manual) = accepted (done _ _) refl
@@ -85,6 +86,7 @@ module _ (n : ℕ) (s : State) where
   reading-kept (Meant e) = step-kept e
   reading-kept (Refused r) = as-given r
 
+  -- promise
   pub onRecord-kept : (bytes : List ℕ) (room : ℕ) → Kept s (onRecord n s bytes room)
   unfolding onRecord
   onRecord-kept bytes room =

@@ -9,6 +9,7 @@ use Rattle.unit.specs.Steps.{shut, shutting, step}
 use Rattle.unit.specs.OnRecords.{onRecord, trace}
 use Rattle.unit.specs.Examples.{examples, got, want}
 
+-- promise
 pub marked-hold : map got examples ≡ map want examples
 unfolding reading turn first seek placesOk sound cold coldStart shut shutting step onRecord trace examples got want
 marked-hold = refl

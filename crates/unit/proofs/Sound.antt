@@ -146,11 +146,13 @@ module _ (n : ℕ) (some-try : 1 ≤ n) (s : State) (f : Facts n s) where
   step-facts (Named p e) ok = named-facts p e (seek p (s .places)) (seek-ok p (s .places))
 
 -- a sound state steps to a sound state, whatever the event
+-- promise
 pub step-sound : (n : ℕ) → 1 ≤ n → (s : State) (e : Event) → sound n s ≡ true → eventOk e ≡ true → sound n (step n s e .state) ≡ true
 step-sound n some-try s e ok event =
     facts-sound n (step n s e .state) (step-facts n some-try s (sound-facts n s ok) e event)
 
 -- and whatever the record, and the room for its actions
+-- promise
 pub onRecord-sound : (n : ℕ) → 1 ≤ n → (s : State) (bytes : List ℕ) (room : ℕ) → sound n s ≡ true → sound n (onRecord n s bytes room .state) ≡ true
 unfolding onRecord
 onRecord-sound n some-try s bytes room ok =

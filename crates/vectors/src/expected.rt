@@ -1,0 +1,150 @@
+// Answers of the code held to the bytes that a vector expects.
+ghost use Prim.Native.Nat.{_<_};
+use crate::part::front;
+use crate::part::number_at;
+use crate::part::rest;
+use crate::part::word;
+use image::same;
+use place::seat::Holding;
+use place::seat::Place;
+use place::turn::Limits;
+use record::partner::Partner;
+use record::read::byte_at;
+use record::test::and;
+use unit::bytes::ACTION_SIZE;
+use unit::state::Marks;
+use unit::state::State;
+use unit::state::Train;
+
+// The bytes of a state: an image's after its kind.
+pub const STATE_SIZE: usize = 36;
+
+// Its bytes before the places, and those of one place.
+pub const HEAD_SIZE: usize = 8;
+
+pub const PLACE_SIZE: usize = 7;
+
+// The least bytes of what a step sends: code and count.
+const SENT_SIZE: usize = 2;
+
+fn word_is(n: u32, s: &[u8], at: usize) -> bool {
+    n == word(byte_at(s, at))
+}
+
+fn mark_is(mark: bool, s: &[u8], at: usize) -> bool {
+    if mark {
+        byte_at(s, at) == 1
+    } else {
+        byte_at(s, at) == 0
+    }
+}
+
+// Whether the first two bytes are the limits.
+pub fn limits_are(limits: Limits, s: &[u8]) -> bool {
+    and(word_is(limits.lowest, s, 0), word_is(limits.highest, s, 1))
+}
+
+fn train_is(train: Train, s: &[u8]) -> bool {
+    and(word_is(train.level, s, 2), word_is(train.mission, s, 3))
+}
+
+// Whether bytes 4 to 7 are the marks.
+pub fn marks_are(marks: Marks, s: &[u8]) -> bool {
+    and(
+        and(mark_is(marks.inside, s, 4), mark_is(marks.mode, s, 5)),
+        and(mark_is(marks.manual, s, 6), mark_is(marks.end, s, 7)),
+    )
+}
+
+// Whether the eight bytes at the front are those of a state before its places.
+fn head_is(state: State, s: &[u8]) -> bool {
+    let limits = state.limits;
+    let train = state.train;
+    let marks = state.marks;
+    and(
+        limits_are(limits, s),
+        and(train_is(train, s), marks_are(marks, s)),
+    )
+}
+
+fn seven_are(s: &[u8], phase: u8, direction: u8, tries: u8, partner: Partner) -> bool {
+    let other = Partner {
+        kind: byte_at(s, 3),
+        high: byte_at(s, 4),
+        middle: byte_at(s, 5),
+        low: byte_at(s, 6),
+    };
+    and(
+        and(
+            byte_at(s, 0) == phase,
+            and(byte_at(s, 1) == direction, byte_at(s, 2) == tries),
+        ),
+        partner.same(other),
+    )
+}
+
+// Whether the seven bytes at the front are those of a place.
+fn place_is(place: Place, s: &[u8]) -> bool {
+    let holding = place.holding;
+    match holding {
+        Holding::Free => {
+            let partner = place.partner();
+            seven_are(s, 0, 0, 0, partner)
+        }
+        Holding::Held {
+            direction,
+            phase,
+            partner,
+        } => {
+            seven_are(
+                s,
+                phase.number(),
+                direction.number(),
+                phase.tries(),
+                partner,
+            )
+        }
+    }
+}
+
+// Whether the bytes at the front are those of the four places.
+pub fn places_are(state: State, s: &[u8]) -> bool {
+    and(
+        and(
+            place_is(state.places[0], s),
+            place_is(state.places[1], rest(s, PLACE_SIZE)),
+        ),
+        and(
+            place_is(state.places[2], rest(s, 2 * PLACE_SIZE)),
+            place_is(state.places[3], rest(s, 3 * PLACE_SIZE)),
+        ),
+    )
+}
+
+// Whether the 36 bytes at the front are those of a state, sound or not.
+pub fn state_is(state: State, s: &[u8]) -> bool {
+    and(head_is(state, s), places_are(state, rest(s, HEAD_SIZE)))
+}
+
+// The bytes of the actions that a code and a count at the front announce.
+fn actions_size(s: &[u8]) -> usize
+    ensures { λ r. ⌜ r < 1280 ⌝ }
+{
+    ACTION_SIZE * number_at(s, 1)
+}
+
+// The bytes of a code, a count and so many actions at the front.
+pub fn sent_size(s: &[u8]) -> usize
+    ensures { λ r. ⌜ r < 1282 ⌝ }
+{
+    SENT_SIZE + actions_size(s)
+}
+
+// Whether the bytes at the front are a code, a count and so many actions, which stand at the front of a buffer.
+pub fn sent_is(code: u8, count: usize, buffer: &[u8], s: &[u8]) -> bool {
+    let size = actions_size(s);
+    and(
+        and(code == byte_at(s, 0), count == number_at(s, 1)),
+        same(front(buffer, size), front(rest(s, SENT_SIZE), size)),
+    )
+}

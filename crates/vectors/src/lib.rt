@@ -1,0 +1,10 @@
+// Vectors of the independent model: each is judged against the proved code, and a file of them is counted and reported.
+pub mod expected;
+pub mod file;
+pub mod histories;
+pub mod mixes;
+pub mod part;
+pub mod runs;
+pub mod single;
+pub mod tally;
+pub mod vector;

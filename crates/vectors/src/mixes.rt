@@ -1,0 +1,168 @@
+// Vectors of mixes: one record on the states that differ in what places 2 and 3 hold.
+use crate::expected::HEAD_SIZE;
+use crate::expected::PLACE_SIZE;
+use crate::expected::limits_are;
+use crate::expected::marks_are;
+use crate::expected::places_are;
+use crate::expected::sent_is;
+use crate::expected::sent_size;
+use crate::part::announced;
+use crate::part::number_at;
+use crate::part::rest;
+use crate::part::sum;
+use crate::part::word;
+use image::state_in;
+use place::phase::FIRST_TRY;
+use place::phase::Phase;
+use place::seat::Direction;
+use place::seat::Place;
+use record::partner::Partner;
+use record::partner::RBC;
+use record::partner::RIU;
+use record::read::KIND_MISSION;
+use record::read::byte_at;
+use record::refusal::ACCEPTED;
+use record::test::and;
+use unit::state::State;
+
+// What a place may hold: nothing, an RBC in one of five phases, or an RIU in one of them.
+const CHOICES: usize = 11;
+
+const PHASES: usize = 5;
+
+const MIXES: usize = CHOICES * CHOICES;
+
+// The last bytes of the partner numbers in places 2 and 3; the others are 0.
+const LOW_OF_TWO: u8 = 0x22;
+
+const LOW_OF_THREE: u8 = 0x23;
+
+// Where the record stands.
+const RECORD_AT: usize = HEAD_SIZE + 2 * PLACE_SIZE;
+
+// The bytes of four places.
+const PLACES_SIZE: usize = 4 * PLACE_SIZE;
+
+fn phase_of(number: usize) -> Phase {
+    match number {
+        1 => Phase::Connecting(FIRST_TRY),
+        2 => Phase::Contacting(FIRST_TRY),
+        3 => Phase::Open,
+        4 => Phase::Lost(FIRST_TRY),
+        _ => Phase::Ending(FIRST_TRY),
+    }
+}
+
+fn held(kind: u8, phase: usize, low: u8) -> Place {
+    Place::held(
+        Direction::Outgoing,
+        phase_of(phase),
+        Partner {
+            kind,
+            high: 0,
+            middle: 0,
+            low,
+        },
+    )
+}
+
+// A place's choice.
+fn chosen(choice: usize, low: u8) -> Place {
+    if choice == 0 {
+        return Place::free();
+    }
+    if choice > PHASES {
+        held(RIU, choice - PHASES, low)
+    } else {
+        held(RBC, choice, low)
+    }
+}
+
+// The state of a mix: the vector's head and first two places, and two choices.
+fn mixed(s: &[u8], mix: usize) -> State {
+    let state = state_in(s);
+    let limits = state.limits;
+    let train = state.train;
+    let marks = state.marks;
+    State {
+        limits,
+        train,
+        marks,
+        places: [
+            state.places[0],
+            state.places[1],
+            chosen(mix / CHOICES, LOW_OF_TWO),
+            chosen(mix % CHOICES, LOW_OF_THREE),
+        ],
+    }
+}
+
+// Mixes so far: whether all held, and where the next expectation stands.
+struct Row {
+    holds: bool,
+    at: usize,
+}
+
+// The mission after: an accepted mission record's, else as before.
+fn mission_after(code: u8, record: &[u8], s: &[u8]) -> u8 {
+    if and(code == ACCEPTED, byte_at(record, 0) == KIND_MISSION) {
+        byte_at(record, 1)
+    } else {
+        byte_at(s, 3)
+    }
+}
+
+// Whether limits, level and marks are the vector's, and this is the mission.
+fn head_kept(state: State, mission: u8, s: &[u8]) -> bool {
+    let limits = state.limits;
+    let train = state.train;
+    let marks = state.marks;
+    and(
+        and(limits_are(limits, s), marks_are(marks, s)),
+        and(
+            train.level == word(byte_at(s, 2)),
+            train.mission == word(mission),
+        ),
+    )
+}
+
+impl Row {
+    // One mix more.
+    fn take(self, s: &[u8], mix: usize) -> Row {
+        let state = mixed(s, mix);
+        let record = announced(rest(s, RECORD_AT));
+        let sent = rest(s, self.at);
+        let size = sent_size(sent);
+        let mut buffer = [0u8; 20];
+        let stepped = state.on_record(record, &mut buffer);
+        let next = stepped.state;
+        let mission = mission_after(stepped.code, record, s);
+        Row {
+            holds: and(
+                and(
+                    self.holds,
+                    sent_is(stepped.code, stepped.count, &buffer, sent),
+                ),
+                and(
+                    head_kept(next, mission, s),
+                    places_are(next, rest(sent, size)),
+                ),
+            ),
+            at: sum(self.at, size + PLACES_SIZE),
+        }
+    }
+}
+
+// All mixes of the choices for places 2 and 3.
+pub fn mixes_hold(s: &[u8]) -> bool {
+    let mut row = Row {
+        holds: true,
+        at: RECORD_AT + 1 + number_at(s, RECORD_AT),
+    };
+    let mut mix = 0;
+    while mix < MIXES {
+        row = row.take(s, mix);
+        mix += 1;
+    }
+    and(row.holds, row.at == s.len())
+}

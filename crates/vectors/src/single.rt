@@ -1,0 +1,97 @@
+// Vectors of one call: a cold start, a step, a write and a reading of an image.
+use crate::expected::STATE_SIZE;
+use crate::expected::state_is;
+use crate::part::announced;
+use crate::part::beyond;
+use crate::part::filled;
+use crate::part::number_at;
+use crate::part::rest;
+use crate::part::word;
+use image::read_image;
+use image::same;
+use image::state_in;
+use image::write_image;
+use place::turn::Limits;
+use record::read::byte_at;
+use record::test::and;
+use unit::answer::Started;
+use unit::state::State;
+use unit::state::cold_start;
+
+// The bytes of an answer before its buffer: code, count and state.
+const ANSWER_SIZE: usize = 38;
+
+// The limits in two bytes.
+pub fn limits_in(s: &[u8]) -> Limits {
+    Limits {
+        lowest: word(byte_at(s, 0)),
+        highest: word(byte_at(s, 1)),
+    }
+}
+
+// Whether these bytes are a code and a state, and nothing more.
+fn started_is(started: Started, s: &[u8]) -> bool {
+    let state = started.state;
+    and(
+        s.len() == 1 + STATE_SIZE,
+        and(started.code == byte_at(s, 0), state_is(state, rest(s, 1))),
+    )
+}
+
+// Whether these bytes are a code, a count, a state and a whole buffer, and nothing more.
+fn answer_is(code: u8, count: usize, state: State, buffer: &[u8], s: &[u8]) -> bool {
+    and(
+        and(
+            s.len() >= ANSWER_SIZE,
+            and(code == byte_at(s, 0), count == number_at(s, 1)),
+        ),
+        and(
+            state_is(state, rest(s, 2)),
+            same(buffer, rest(s, ANSWER_SIZE)),
+        ),
+    )
+}
+
+// A cold start.
+pub fn start_holds(s: &[u8]) -> bool {
+    started_is(cold_start(limits_in(s)), rest(s, 2))
+}
+
+// A reading of an image.
+pub fn load_holds(s: &[u8]) -> bool {
+    started_is(read_image(announced(s)), beyond(s))
+}
+
+fn store_is(state: State, buffer: &mut [u8], s: &[u8]) -> bool {
+    let stored = write_image(state, buffer);
+    let next = stored.state;
+    answer_is(stored.code, stored.count, next, buffer, s)
+}
+
+// A write of an image.
+pub fn store_holds(s: &[u8]) -> bool {
+    let room = rest(s, STATE_SIZE);
+    let length = number_at(room, 0);
+    let mut buffer = filled(byte_at(room, 1));
+    store_is(state_in(s), &mut buffer[0..length], rest(room, 2))
+}
+
+fn step_is(state: State, record: &[u8], buffer: &mut [u8], s: &[u8]) -> bool {
+    let stepped = state.on_record(record, buffer);
+    let next = stepped.state;
+    answer_is(stepped.code, stepped.count, next, buffer, s)
+}
+
+// A step.
+pub fn step_holds(s: &[u8]) -> bool {
+    let bytes = rest(s, STATE_SIZE);
+    let room = beyond(bytes);
+    let length = number_at(room, 0);
+    let mut buffer = filled(byte_at(room, 1));
+    step_is(
+        state_in(s),
+        announced(bytes),
+        &mut buffer[0..length],
+        rest(room, 2),
+    )
+}

@@ -1,0 +1,69 @@
+// One vector: its group, its operation, and whether the code answers as it expects.
+//
+// A body is its group, its operation, and what the list of operations says: what is given and, after a semicolon, what is
+// expected. A state is the 36 bytes of an image after its kind; a number of several bytes has its high byte first.
+use crate::histories::history_holds;
+use crate::mixes::mixes_hold;
+use crate::part::rest;
+use crate::runs::long_run_holds;
+use crate::runs::run_holds;
+use crate::single::load_holds;
+use crate::single::start_holds;
+use crate::single::step_holds;
+use crate::single::store_holds;
+use record::read::byte_at;
+
+// The groups are 1 to 9.
+const GROUPS: u8 = 9;
+
+// limits (2); code, state
+const COLD_START: u8 = 1;
+
+// state, record length (1), record, buffer length (1), fill (1); code, count, state, buffer
+const STEP: u8 = 2;
+
+// state, buffer length (1), fill (1); code, count, state, buffer
+const STORE: u8 = 3;
+
+// length (1), bytes; code, state
+const LOAD: u8 = 4;
+
+// state, budget (4), log length (2), log; code, stop, offset, read, refused and six totals (4 each), state
+const RUN: u8 = 5;
+
+// state, budget (4), log length (4), pattern length (1), pattern; as for a run
+const LONG_RUN: u8 = 6;
+
+// limits (2), number of records (2), each record: length (1), record; code, count, actions; at the end: state
+const HISTORY: u8 = 7;
+
+// eight bytes of a state, places 0 and 1, record length (1), record; 121 times: code, count, actions, four places
+const MIXES: u8 = 8;
+
+// The group of a vector; 0 where no group has that number.
+pub fn group_of(body: &[u8]) -> u8 {
+    let group = byte_at(body, 0);
+    if group <= GROUPS { group } else { 0 }
+}
+
+fn operation_holds(operation: u8, s: &[u8]) -> bool {
+    match operation {
+        COLD_START => start_holds(s),
+        STEP => step_holds(s),
+        STORE => store_holds(s),
+        LOAD => load_holds(s),
+        RUN => run_holds(s),
+        LONG_RUN => long_run_holds(s),
+        HISTORY => history_holds(s),
+        MIXES => mixes_hold(s),
+        _ => false,
+    }
+}
+
+// Whether a vector holds; one of no group, of an unknown operation, cut off or with bytes left over does not.
+pub fn holds(body: &[u8]) -> bool {
+    if group_of(body) == 0 {
+        return false;
+    }
+    operation_holds(byte_at(body, 1), rest(body, 2))
+}

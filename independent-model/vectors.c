@@ -1,0 +1,1807 @@
+/* Test vectors of document 01, computed by the model.
+ *   vectors list                     the number of vectors and bytes of each group
+ *   vectors write FILE               all vectors
+ *   vectors write-small FILE SPOIL   a few of each group; SPOIL k > 0: one byte of an
+ *                                    expectation of the k-th vector of the file is wrong
+ *
+ * A vector is the length of its body (2 bytes, big-endian) and the body: group, operation,
+ * operands, expectations. Where the code to be expected was written down by hand here, it is
+ * compared with the model's; a difference ends the program. */
+#include "gen.h"
+
+#include <stdio.h>
+#include <stdlib.h>
+#include <string.h>
+
+enum { GROUPS = 9, BODY_MOST = 8000, STATE_BYTES = IMAGE_BYTES - 1, ANY = 255 };
+enum { OP_COLD = 1, OP_STEP, OP_WRITE, OP_READ, OP_RUN, OP_LONG, OP_HISTORY, OP_MIX, OPS = OP_MIX };
+
+typedef struct {
+    uint8_t group, op;
+    uint32_t at, length;        /* the body, in 'bytes' */
+    uint32_t code_at;           /* in the body: an expected code */
+    uint32_t action_at;         /* an action's number or a byte of a total, 0: none */
+    uint32_t state_at;          /* a byte of an expected state that may be any, 0: none */
+} Vector;
+
+static uint8_t bytes[4u << 20];
+static size_t used;
+static Vector vectors[30000];
+static size_t count;
+static const char *const group_name[GROUPS + 1] = {
+    "", "cells", "refusals", "fields", "orders", "unsound", "images", "buffers", "runs", "histories",
+};
+
+static void fail(const char *why)
+{
+    fprintf(stderr, "vector %zu: %s\n", count + 1, why);
+    exit(1);
+}
+
+/* ---- the body under construction ---- */
+
+static uint8_t body[BODY_MOST];
+static size_t n;
+static Vector now;
+
+static void u8(unsigned v)
+{
+    if (n == BODY_MOST)
+        fail("body too long");
+    body[n++] = (uint8_t)v;
+}
+
+static void u16(unsigned v) { u8(v >> 8 & 255); u8(v & 255); }
+static void u32(uint32_t v) { u16(v >> 16); u16(v & 65535); }
+
+static void raw(const uint8_t *b, size_t length)
+{
+    for (size_t i = 0; i < length; i++)
+        u8(b[i]);
+}
+
+static void begin(int group, int op)
+{
+    n = 0;
+    now = (Vector){.group = (uint8_t)group, .op = (uint8_t)op};
+    u8((unsigned)group);
+    u8((unsigned)op);
+}
+
+static void end(void)
+{
+    for (size_t i = count; now.op < OP_HISTORY && i-- > 0 && vectors[i].group == now.group;)
+        if (vectors[i].length == n && memcmp(bytes + vectors[i].at, body, n) == 0)
+            return;                        /* there already */
+    if (used + 2 + n > sizeof bytes || count == sizeof vectors / sizeof vectors[0])
+        fail("too many vectors");
+    bytes[used++] = (uint8_t)(n >> 8);
+    bytes[used++] = (uint8_t)n;
+    memcpy(bytes + used, body, n);
+    now.at = (uint32_t)used;
+    now.length = (uint32_t)n;
+    used += n;
+    vectors[count++] = now;
+}
+
+/* What a state in a vector may hold. */
+static bool holdable(const State *s)
+{
+    if (s->inside > 1 || s->mode > 1 || s->manual > 1 || s->hole_end > 1)
+        return false;
+    for (int i = 0; i < PLACES; i++) {
+        if (s->phase[i] > ENDING || s->direction[i] > 1 || (s->phase[i] == OPEN && s->tries[i] != 0))
+            return false;
+        if (s->phase[i] == FREE && (s->direction[i] || s->tries[i] || s->partner[i]))
+            return false;
+    }
+    return true;
+}
+
+static bool plainly_sound(const uint8_t *image);
+
+static void state(const State *s)
+{
+    uint8_t image[IMAGE_BYTES];
+    if (!holdable(s))
+        fail("state cannot be held");
+    image_store(s, image);
+    if (sound(s) != plainly_sound(image))
+        fail("soundness");
+    raw(image + 1, STATE_BYTES);
+}
+
+static void code(unsigned v) { now.code_at = (uint32_t)n; u8(v); }
+
+static void state_expected(const State *s)
+{
+    now.state_at = (uint32_t)n + 2;        /* the level */
+    state(s);
+}
+
+static bool same(const State *a, const State *b) { return memcmp(a, b, sizeof *a) == 0; }
+
+static void compare(unsigned got, unsigned want)
+{
+    if (want != ANY && got != want) {
+        fprintf(stderr, "vector %zu, group %u, op %u: code %u, by hand %u\n",
+                count + 1, now.group, now.op, got, want);
+        exit(1);
+    }
+}
+
+/* ---- one vector of each operation ---- */
+
+static void cold_vector(int group, unsigned lowest, unsigned highest, unsigned want)
+{
+    State s;
+    begin(group, OP_COLD);
+    u8(lowest);
+    u8(highest);
+    const uint8_t c = cold_start(&s, (uint8_t)lowest, (uint8_t)highest);
+    compare(c, want);
+    code(c);
+    state_expected(&s);
+    end();
+}
+
+static uint8_t step_in(int group, const State *s, const uint8_t *r, size_t length,
+                       size_t buffer, unsigned fill, unsigned want)
+{
+    uint8_t actions[256];
+    State after = *s;
+    begin(group, OP_STEP);
+    state(s);
+    u8((unsigned)length);
+    raw(r, length);
+    u8((unsigned)buffer);
+    u8(fill);
+    memset(actions, (int)fill, sizeof actions);
+    const StepResult x = step(&after, r, length, actions, buffer);
+    compare(x.code, want);
+    for (size_t i = x.code == 0 ? (size_t)ACTION_BYTES * x.count : 0; i < sizeof actions; i++)
+        if (actions[i] != (uint8_t)fill)
+            fail("a byte that is not an action's was written");
+    if (x.code != 0 && (x.count != 0 || !same(s, &after)))
+        fail("a refused step changed something");
+    code(x.code);
+    u8(x.count);
+    state_expected(&after);
+    if (x.count > 0)
+        now.action_at = (uint32_t)n;
+    raw(actions, buffer);
+    end();
+    return x.count;
+}
+
+/* The fill bytes in turn; 16 hex is 22, a release. */
+static unsigned next_fill(void)
+{
+    static const uint8_t fills[] = {0x00, 0xFF, 0x5A, 0xC3, 0x16};
+    static unsigned k;
+    return fills[k++ % sizeof fills];
+}
+
+static void step_vector(int group, const State *s, const uint8_t *r, size_t length, unsigned want)
+{
+    step_in(group, s, r, length, ACTION_BUFFER, next_fill(), want);
+}
+
+static void write_vector(int group, const State *s, size_t buffer, unsigned fill, unsigned want)
+{
+    uint8_t image[256];
+    begin(group, OP_WRITE);
+    state(s);
+    u8((unsigned)buffer);
+    u8(fill);
+    memset(image, (int)fill, sizeof image);
+    const uint8_t c = image_write(s, image, buffer);
+    compare(c, want);
+    code(c);
+    u8(c == 0 ? IMAGE_BYTES : 0);
+    state_expected(s);
+    raw(image, buffer);
+    end();
+}
+
+/* Document 01's soundness, read off an image's bytes one rule after the other; a check on the
+ * model, which tests four bytes at a time. */
+static bool plainly_sound(const uint8_t *image)
+{
+    const uint8_t *const h = image + 1, *const p = image + 9;
+    if (h[0] > 7 || h[1] > 7 || h[0] > h[1] || h[2] > 4 || h[3] > 2)
+        return false;
+    for (int i = 4; i < 8; i++)
+        if (h[i] > 1)
+            return false;
+    if (h[4] == 1 && h[7] == 1)
+        return false;
+    for (int i = 0; i < PLACES; i++) {
+        const uint8_t *const q = p + 7 * i;
+        const unsigned phase = q[0], direction = q[1], tries = q[2], type = q[3];
+        if (phase == 0) {
+            for (int k = 1; k < 7; k++)
+                if (q[k] != 0)
+                    return false;
+            continue;
+        }
+        if (phase > 5 || direction > 1 || type > 1)
+            return false;
+        if (phase == 3 ? tries != 0 : tries < 1 || tries > 3)
+            return false;
+        if (direction == 1 && (type == 1 || phase == 1 || phase == 2))
+            return false;
+        for (int j = 0; j < i; j++)
+            if (p[7 * j] != 0 && memcmp(p + 7 * j + 3, q + 3, 4) == 0)
+                return false;
+    }
+    return true;
+}
+
+static void read_vector(int group, const uint8_t *image, size_t length, unsigned want)
+{
+    State s;
+    if (want == ANY)
+        want = image[0] != 0xA1 ? 2 : plainly_sound(image) ? 0 : 11;     /* of 37 bytes */
+    begin(group, OP_READ);
+    u8((unsigned)length);
+    raw(image, length);
+    const uint8_t c = image_read(&s, image, length);
+    compare(c, want);
+    code(c);
+    state_expected(&s);
+    end();
+}
+
+static void run_expected(const State *s, const uint8_t *log, size_t length, uint32_t budget,
+                         unsigned want, unsigned stop)
+{
+    State after = *s, once = *s;
+    RunResult x, y;
+    memset(&x, 0, sizeof x);
+    memset(&y, 0, sizeof y);
+    run_checked(&after, log, length, budget, &x);
+    run_once(&once, log, length, budget, &y);
+    if (memcmp(&x, &y, sizeof x) != 0 || !same(&after, &once))
+        fail("the two runs differ");
+    compare(x.code, want);
+    compare(x.stop, stop);
+    code(x.code);
+    u8(x.stop);
+    u32(x.offset);
+    u32(x.read);
+    u32(x.refused);
+    for (int i = 0; i < 6; i++) {
+        u32(x.total[i]);
+        if (x.total[i] > 0)
+            now.action_at = (uint32_t)n - 1;
+    }
+    state_expected(&after);
+}
+
+static void run_vector(int group, const State *s, const uint8_t *log, size_t length,
+                       uint32_t budget, unsigned want, unsigned stop)
+{
+    begin(group, OP_RUN);
+    state(s);
+    u32(budget);
+    u16((unsigned)length);
+    raw(log, length);
+    run_expected(s, log, length, budget, want, stop);
+    end();
+}
+
+static void long_vector(int group, const State *s, const uint8_t *pattern, size_t pattern_length,
+                        size_t length, uint32_t budget, unsigned want, unsigned stop)
+{
+    static uint8_t log[LOG_MOST + 1];
+    if (length > sizeof log || pattern_length == 0 || pattern_length > 255)
+        fail("log or pattern too long");
+    begin(group, OP_LONG);
+    state(s);
+    u32(budget);
+    u32((uint32_t)length);
+    u8((unsigned)pattern_length);
+    raw(pattern, pattern_length);
+    for (size_t i = 0; i < length; i++)
+        log[i] = pattern[i % pattern_length];
+    run_expected(s, log, length, budget, want, stop);
+    end();
+}
+
+static void history_vector(int group, Rng *g, unsigned records)
+{
+    uint8_t lowest, highest;
+    State s;
+    gen_x(g, &lowest, &highest);
+    begin(group, OP_HISTORY);
+    u8(lowest);
+    u8(highest);
+    u16(records);
+    compare(cold_start(&s, lowest, highest), 0);
+    for (unsigned k = 0; k < records; k++) {
+        uint8_t r[GEN_MOST], actions[ACTION_BUFFER];
+        const size_t length = gen_record(g, &s, false, r);
+        const StepResult x = step(&s, r, length, actions, sizeof actions);
+        u8((unsigned)length);
+        raw(r, length);
+        if (k <= records / 2)
+            code(x.code);
+        else
+            u8(x.code);
+        u8(x.count);
+        if (x.count > 0 && now.action_at == 0)
+            now.action_at = (uint32_t)n;
+        raw(actions, (size_t)ACTION_BYTES * x.count);
+    }
+    state_expected(&s);
+    end();
+}
+
+/* The place of a choice 0..10: free, an RBC in phase 1..5, an RIU in phase 1..5. */
+static void choice(uint8_t p[7], unsigned place, unsigned c)
+{
+    memset(p, 0, 7);
+    if (c == 0)
+        return;
+    p[0] = (uint8_t)((c - 1) % 5 + 1);
+    p[2] = p[0] == OPEN ? 0 : 1;
+    p[3] = c > 5;
+    p[6] = (uint8_t)(0x20 + place);
+}
+
+static void mix_vector(int group, const uint8_t head[8], const uint8_t p0[7], const uint8_t p1[7],
+                       const uint8_t *r, size_t length)
+{
+    uint8_t image[IMAGE_BYTES] = {IMAGE_KIND}, after[IMAGE_BYTES];
+    begin(group, OP_MIX);
+    raw(head, 8);
+    raw(p0, 7);
+    raw(p1, 7);
+    u8((unsigned)length);
+    raw(r, length);
+    memcpy(image + 1, head, 8);
+    memcpy(image + 9, p0, 7);
+    memcpy(image + 16, p1, 7);
+    for (unsigned j = 0; j <= 10; j++)
+        for (unsigned k = 0; k <= 10; k++) {
+            State s;
+            uint8_t actions[ACTION_BUFFER];
+            choice(image + 23, 2, j);
+            choice(image + 30, 3, k);
+            image_load(&s, image);
+            if (!sound(&s))
+                fail("a mix is not sound");
+            const StepResult x = step(&s, r, length, actions, sizeof actions);
+            if (j <= 5)
+                code(x.code);
+            else
+                u8(x.code);
+            u8(x.count);
+            if (x.count > 0 && j <= 5)
+                now.action_at = (uint32_t)n;
+            raw(actions, (size_t)ACTION_BYTES * x.count);
+            image_store(&s, after);
+            raw(after + 9, 28);
+        }
+    now.state_at = (uint32_t)n - 1;        /* the number of the Ending RIU in place 3 */
+    end();
+}
+
+/* ---- states and records ---- */
+
+static State with_x(unsigned lowest, unsigned highest)
+{
+    State s;
+    memset(&s, 0, sizeof s);
+    s.lowest = (uint8_t)lowest;
+    s.highest = (uint8_t)highest;
+    return s;
+}
+
+static void hold(State *s, unsigned place, uint32_t who, unsigned phase, unsigned direction,
+                 unsigned tries)
+{
+    s->partner[place] = who;
+    s->phase[place] = (uint8_t)phase;
+    s->direction[place] = (uint8_t)direction;
+    s->tries[place] = (uint8_t)tries;
+}
+
+static void vacate(State *s, unsigned place) { hold(s, place, 0, 0, 0, 0); }
+
+/* The twelve sound values of the marks, the bits of inside, mode, manual, hole end. */
+static const uint8_t marks12[12] = {0, 6, 1, 14, 2, 5, 4, 12, 8, 3, 10, 7};
+
+static void set_marks(State *s, unsigned bits)
+{
+    s->inside = bits >> 3 & 1;
+    s->mode = bits >> 2 & 1;
+    s->manual = bits >> 1 & 1;
+    s->hole_end = bits & 1;
+}
+
+/* Level, mission and marks by a running number. */
+static void set_head(State *s, unsigned k)
+{
+    s->level = (uint8_t)(k % 5);
+    s->mission = (uint8_t)(k / 2 % 3);
+    set_marks(s, marks12[k / 3 % 12]);
+}
+
+/* Every sound (phase, direction, tries) of an RBC; an RIU has those with direction 0. */
+static const struct { uint8_t phase, direction, tries; } form[20] = {
+    {1, 0, 1}, {3, 1, 0}, {2, 0, 1}, {4, 0, 1}, {5, 0, 1}, {1, 0, 2}, {2, 0, 2}, {3, 0, 0},
+    {4, 0, 2}, {5, 0, 2}, {4, 1, 1}, {5, 1, 1}, {1, 0, 3}, {2, 0, 3}, {4, 0, 3}, {5, 0, 3},
+    {4, 1, 2}, {5, 1, 2}, {4, 1, 3}, {5, 1, 3},
+};
+
+static void hold_form(State *s, unsigned place, uint32_t who, unsigned f)
+{
+    f %= 20;
+    if (who >> 24 == RIU)
+        while (form[f].direction != 0)
+            f = (f + 1) % 20;
+    hold(s, place, who, form[f].phase, form[f].direction, form[f].tries);
+}
+
+typedef struct { size_t n; uint8_t b[16]; } Rec;
+
+static Rec rec0(void) { return (Rec){0, {0}}; }
+static Rec rec1(unsigned k) { return (Rec){1, {(uint8_t)k}}; }
+static Rec rec2(unsigned k, unsigned a) { return (Rec){2, {(uint8_t)k, (uint8_t)a}}; }
+static Rec rec3(unsigned k, unsigned a, unsigned b) { return (Rec){3, {(uint8_t)k, (uint8_t)a, (uint8_t)b}}; }
+
+static Rec rec5(unsigned k, uint32_t who)
+{
+    return (Rec){5, {(uint8_t)k, (uint8_t)(who >> 24), (uint8_t)(who >> 16), (uint8_t)(who >> 8), (uint8_t)who}};
+}
+
+static Rec rec7(unsigned k, uint32_t who, unsigned a, unsigned b)
+{
+    Rec r = rec5(k, who);
+    r.n = 7;
+    r.b[5] = (uint8_t)a;
+    r.b[6] = (uint8_t)b;
+    return r;
+}
+
+static Rec order_of(uint32_t who, unsigned accepting, unsigned cause) { return rec7(5, who, accepting, cause); }
+static Rec message_of(uint32_t who, unsigned number, unsigned version) { return rec7(11, who, number, version); }
+
+static void step_rec(int group, const State *s, Rec r, unsigned want) { step_vector(group, s, r.b, r.n, want); }
+
+enum {
+    A = 0x00010203, A_RIU = 0x01010203,     /* one number, two partners */
+    A_1 = 0x00810203, A_2 = 0x00018203, A_3 = 0x00010283,
+    NEW = 0x000A0B0C, NEW_RIU = 0x010A0B0C
+};
+
+/* Four held places, each of another kind. */
+static State full_state(void)
+{
+    State s = with_x(1, 2);
+    s.level = 2;
+    s.mission = 1;
+    hold(&s, 0, A, OPEN, INCOMING, 0);
+    hold(&s, 1, A_RIU, OPEN, OUTGOING, 0);
+    hold(&s, 2, A_1, LOST, OUTGOING, 2);
+    hold(&s, 3, A_3, CONTACTING, OUTGOING, 3);
+    return s;
+}
+
+/* ---- group 1: cells ---- */
+
+/* 7 where the table of document 01 says "no": drop, up, lost, timeout, 32 good, 32 bad, 39. */
+static const uint8_t cell_code[6][7] = {
+    {0}, {0, 0, 7, 0, 7, 7, 7}, {0, 7, 0, 0, 0, 0, 7}, {0, 7, 0, 7, 7, 7, 7},
+    {0, 0, 7, 0, 7, 7, 7}, {7, 7, 0, 0, 7, 7, 0},
+};
+
+static Rec column(unsigned c, uint32_t who, unsigned version)
+{
+    static const uint8_t kind[4] = {EV_DROP, EV_UP, EV_LOST, EV_TIMEOUT};
+    if (c < 4)
+        return rec5(kind[c], who);
+    return c == 6 ? message_of(who, 39, 0) : message_of(who, 32, version);
+}
+
+static void version_edges(const State *s, uint32_t who)
+{
+    if (s->lowest > 0)
+        step_rec(1, s, message_of(who, 32, 16u * s->lowest - 1), 0);
+    step_rec(1, s, message_of(who, 32, 16u * s->lowest), 0);
+    step_rec(1, s, message_of(who, 32, 16u * s->highest + 15), 0);
+    if (s->highest < 7)
+        step_rec(1, s, message_of(who, 32, 16u * s->highest + 16), 0);
+}
+
+static void cells(void)
+{
+    static const uint8_t xs[8][2] = {{1, 2}, {2, 5}, {0, 3}, {3, 3}, {4, 7}, {0, 0}, {7, 7}, {5, 6}};
+    unsigned k = 0;
+
+    for (unsigned place = 0; place < PLACES; place++)
+        for (unsigned type = RBC; type <= RIU; type++)
+            for (unsigned f = 0; f < 20; f++)
+                for (unsigned among = 0; among < 2; among++) {
+                    if (type == RIU && form[f].direction != 0)
+                        continue;
+                    if (!among && form[f].tries > 1)
+                        continue;
+                    const uint32_t who = type == RBC ? A : A_RIU;
+                    /* partners that differ from it in one part only; three of the four stand by */
+                    const uint32_t like[4] = {who ^ 0x01000000, who ^ 0x00800000, who ^ 0x00008000,
+                                              who ^ 0x00000080};
+                    State s = with_x(xs[k % 8][0], xs[k % 8][1]);
+                    hold_form(&s, place, who, f);
+                    unsigned l = k;
+                    for (unsigned i = 0; among && i < PLACES; i++)
+                        if (i != place) {
+                            hold_form(&s, i, like[l % 4], k * 7 + i * 3);
+                            l++;
+                        }
+                    for (unsigned c = 0; c < 7; c++) {
+                        const unsigned y = k * 5 % 16;
+                        const unsigned good = 16u * (k & 1 ? s.lowest : s.highest) + y;
+                        const unsigned bad = s.highest == 7 || (s.lowest > 0 && (k & 2))
+                                                 ? 16u * s.lowest - 1 - y : 16u * s.highest + 16 + y;
+                        set_head(&s, k++);
+                        step_rec(1, &s, column(c, who, c == 4 ? good : bad), cell_code[form[f].phase][c]);
+                    }
+                    if (among && form[f].phase == CONTACTING)
+                        version_edges(&s, who);
+                }
+
+    /* every X, its first, a middle and its last version, and the edges of every range */
+    State s = with_x(2, 4);
+    hold(&s, 1, A, CONTACTING, OUTGOING, 2);
+    for (unsigned v = 0; v < 128; v += v % 16 == 0 ? 7 : v % 16 == 7 ? 8 : 1)
+        step_rec(1, &s, message_of(A, 32, v), 0);
+    for (unsigned lowest = 0; lowest < 8; lowest++)
+        for (unsigned highest = lowest; highest < 8; highest++) {
+            s = with_x(lowest, highest);
+            hold(&s, (lowest + highest) % 4, A_RIU, CONTACTING, OUTGOING, 1 + lowest % 3);
+            version_edges(&s, A_RIU);
+        }
+
+    /* RBC 0, whose bytes are those of a free place, and the largest number; the first and the
+     * last place held by it, and not held */
+    static const uint32_t edge[2] = {0x00000000, 0x01FFFFFF};
+    for (unsigned e = 0; e < 2; e++)
+        for (unsigned f = 0; f < 5; f++) {
+            const unsigned first[5] = {0, 2, 7, 3, 4};          /* phases 1 to 5 */
+            s = with_x(1, 2);
+            hold_form(&s, 3, edge[e], first[f]);
+            for (unsigned c = 0; c < 7; c++)
+                step_rec(1, &s, column(c, edge[e], c == 4 ? 0x11 : 0x30), cell_code[f + 1][c]);
+            hold_form(&s, 3, A, first[f]);
+            step_rec(1, &s, column(f, edge[e], 0x11), 6);
+            step_rec(1, &s, column(6, edge[e], 0), 6);
+        }
+
+    /* an order and a call 38 take the lowest free place, whatever stands in the others */
+    for (unsigned held = 0; held < 16; held++)
+        for (unsigned turn = 0; turn < 3; turn++) {
+            const uint32_t like[4] = {A_RIU, A_1, A_2, A_3};
+            s = with_x(1, 2);
+            set_head(&s, held * 3 + turn);
+            for (unsigned i = 0; i < PLACES; i++)
+                if (held >> i & 1)
+                    hold_form(&s, i, like[i], held + turn * 5 + i * 3);
+            step_rec(1, &s, message_of(turn == 2 ? 0 : A, 38, 0), held == 15 ? 8 : 0);
+            step_rec(1, &s, order_of(turn == 2 ? 0 : A, 1, 1), held == 15 ? 8 : 0);
+            step_rec(1, &s, order_of(turn == 2 ? 0x01FFFFFF : NEW_RIU, turn & 1, 1), held == 15 ? 8 : 0);
+        }
+}
+
+/* ---- group 2: refusals ---- */
+
+typedef struct { State s; Rec r; uint8_t code; } Case;
+
+/* Steps refused for one reason only. */
+static size_t single_refusals(Case *out)
+{
+    size_t c = 0;
+    State none = with_x(1, 2), some = full_state(), full = full_state(), in = with_x(1, 2);
+    none.level = some.level = 2;
+    set_marks(&some, 6);
+    vacate(&some, 2);
+    set_marks(&full, 7);
+    in.inside = 1;
+
+    out[c++] = (Case){some, rec0(), 1};
+    out[c++] = (Case){some, rec1(0), 2};
+    out[c++] = (Case){some, rec5(12, A), 2};
+    out[c++] = (Case){some, rec7(255, A, 0, 0), 2};
+    out[c++] = (Case){some, rec2(EV_LEVEL, 3), 1};
+    out[c++] = (Case){some, rec2(EV_MODE, 0), 1};
+    out[c++] = (Case){some, rec5(EV_MESSAGE, A), 1};
+    out[c++] = (Case){some, rec3(EV_LEVEL, 5, 0), 3};
+    out[c++] = (Case){some, rec3(EV_LEVEL, 3, 2), 3};
+    out[c++] = (Case){some, rec2(EV_MISSION, 3), 3};
+    out[c++] = (Case){some, rec2(EV_END_ALL, 2), 3};
+    out[c++] = (Case){some, order_of(NEW, 2, 1), 3};
+    out[c++] = (Case){none, order_of(NEW, 1, 0), 4};
+    out[c++] = (Case){some, order_of(NEW, 0, 4), 4};
+    out[c++] = (Case){some, order_of(A, 0, 1), 5};
+    out[c++] = (Case){some, order_of(A_RIU, 0, 3), 5};
+    out[c++] = (Case){full, order_of(NEW, 0, 1), 8};
+    out[c++] = (Case){full, order_of(NEW_RIU, 1, 3), 8};
+    out[c++] = (Case){some, message_of(NEW_RIU, 38, 0), 9};
+    out[c++] = (Case){some, message_of(A, 38, 0), 5};
+    out[c++] = (Case){full, message_of(NEW, 38, 0), 8};
+    for (unsigned k = 0; k < 7; k++)
+        out[c++] = (Case){some, column(k, NEW, 0x11), 6};
+    for (unsigned k = 0; k < 7; k++) {
+        State s = some;                    /* a phase that does not take this event */
+        const unsigned phase[7] = {ENDING, OPEN, LOST, OPEN, OPEN, LOST, CONTACTING};
+        hold(&s, 3, A_3, phase[k], OUTGOING, phase[k] == OPEN ? 0 : 2);
+        out[c++] = (Case){s, column(k, A_3, k == 4 ? 0x11 : 0x30), 7};
+    }
+    out[c++] = (Case){in, rec2(EV_HOLE, 1), 7};
+    out[c++] = (Case){none, rec2(EV_HOLE, 0), 7};
+    return c;
+}
+
+static State unsound(State s, unsigned how)
+{
+    switch (how) {
+    case 0: s.highest = 8; break;
+    case 1: s.lowest = (uint8_t)(s.highest + 1); break;
+    case 2: s.level = 5; break;
+    case 3: s.mission = 3; break;
+    default: hold(&s, 0, 0x02000001, ENDING, OUTGOING, 1); break;
+    }
+    return s;
+}
+
+static void step_refusals(void)
+{
+    static Case cases[80];
+    const size_t c = single_refusals(cases);
+    for (size_t i = 0; i < c; i++) {
+        const Case *const x = &cases[i];
+        State s;
+        Rec r = x->r;
+        step_rec(2, &x->s, r, x->code);
+        step_in(2, &x->s, r.b, r.n, i % 3 ? 19 : 0, next_fill(), 10);
+        for (unsigned how = (unsigned)i % 2; how < 4; how += 2) {
+            s = unsound(x->s, how);
+            step_rec(2, &s, r, 11);
+        }
+        s = unsound(x->s, (unsigned)i % 5);
+        step_in(2, &s, r.b, r.n, (unsigned)i % 20, next_fill(), 10);
+        if (x->code < 3)
+            continue;
+        r.n--;                             /* the rest as before: the length comes first */
+        step_rec(2, &x->s, r, 1);
+        r.n += 2;
+        step_rec(2, &x->s, r, 1);
+    }
+
+    /* sound, accepted, but for the buffer or the state alone */
+    State s = full_state();
+    step_in(2, &s, rec5(EV_DROP, A).b, 5, 19, next_fill(), 10);
+    step_in(2, &s, rec5(EV_DROP, A).b, 5, 0, next_fill(), 10);
+    for (unsigned how = 0; how < 5; how++) {
+        const State u = unsound(s, how);
+        step_rec(2, &u, rec5(EV_DROP, A_1), 11);
+        step_in(2, &u, rec5(EV_DROP, A_1).b, 5, 19, next_fill(), 10);
+    }
+}
+
+/* Pairs among 3 to 9. */
+static void step_pairs(void)
+{
+    State none = with_x(1, 2), some = full_state(), full = full_state();
+    vacate(&some, 2);
+    set_marks(&some, 12);                  /* inside, mode */
+    set_marks(&full, 2);                   /* manual */
+    some.mission = full.mission = 2;
+
+    /* 3 before 4: cause 0 is not in force in mission 2 or 0, cause 4 has no mark */
+    for (unsigned cause = 0; cause <= 4; cause += 4) {
+        step_rec(2, &some, order_of(NEW, 2, cause), 3);
+        step_rec(2, &some, order_of(NEW ^ 0x02000000, 0, cause), 3);
+        step_rec(2, &none, order_of(NEW, 255, cause), 3);
+        step_rec(2, &none, order_of(NEW ^ 0xFF000000, 1, cause), 3);
+    }
+    /* 3 before 5 */
+    step_rec(2, &some, order_of(A, 2, 1), 3);
+    step_rec(2, &some, order_of(A, 0, 5), 3);
+    step_rec(2, &some, order_of(A_RIU, 255, 1), 3);
+    step_rec(2, &some, message_of(A, 38, 1), 3);
+    step_rec(2, &some, message_of(A_3, 38, 255), 3);
+    /* 3 before 8 */
+    step_rec(2, &full, order_of(NEW, 2, 1), 3);
+    step_rec(2, &full, order_of(NEW, 1, 5), 3);
+    step_rec(2, &full, order_of(NEW ^ 0x02000000, 1, 1), 3);
+    step_rec(2, &full, message_of(NEW, 38, 1), 3);
+    step_rec(2, &full, message_of(NEW ^ 0x02000000, 38, 0), 3);
+    /* 3 before 9 */
+    step_rec(2, &none, message_of(NEW_RIU, 38, 1), 3);
+    step_rec(2, &some, message_of(NEW_RIU, 38, 128), 3);
+    step_rec(2, &none, message_of(0x02000001, 38, 0), 3);
+    /* 3 before 4, 5 and 8 together; before 9, 5 and 8 together */
+    step_rec(2, &full, order_of(A, 2, 0), 3);
+    step_rec(2, &full, order_of(A_RIU, 0, 6), 3);
+    step_rec(2, &full, message_of(A_RIU, 38, 1), 3);
+    /* 3 before 6 */
+    for (unsigned c = 0; c < 7; c++) {
+        step_rec(2, &some, column(c, A ^ 0x02000000, 0x11), 3);
+        step_rec(2, &some, column(c, A ^ 0xFF000000, 0x11), 3);
+        step_rec(2, &none, column(c, 0x02000000, 0x11), 3);
+    }
+    step_rec(2, &some, message_of(NEW, 32, 128), 3);
+    step_rec(2, &some, message_of(NEW, 39, 1), 3);
+    step_rec(2, &some, message_of(NEW, 33, 0), 3);
+    step_rec(2, &some, message_of(NEW, 255, 255), 3);
+    /* 3 before 7, in each phase that does not take the message; the hole in both conditions */
+    for (unsigned f = 0; f < 20; f++) {
+        State s = with_x(1, 2);
+        hold_form(&s, f % 4, A, f);
+        if (form[f].phase != CONTACTING)
+            step_rec(2, &s, message_of(A, 32, 128 + f), 3);
+        if (form[f].phase != ENDING)
+            step_rec(2, &s, message_of(A, 39, 1 + f), 3);
+        step_rec(2, &s, message_of(A, f % 2 ? 31 : 40, 0), 3);
+    }
+    for (unsigned v = 2; v < 5; v++) {
+        State s = with_x(1, 2);
+        step_rec(2, &s, rec2(EV_HOLE, v), 3);
+        s.inside = 1;
+        step_rec(2, &s, rec2(EV_HOLE, v), 3);
+        step_rec(2, &s, rec2(EV_HOLE, 255), 3);
+        set_marks(&s, 1);
+        step_rec(2, &s, rec2(EV_HOLE, v), 3);
+    }
+
+    /* 4 before 5, before 8, before both; each cause but 1, each reason for it */
+    for (unsigned why = 0; why < 8; why++) {
+        static const struct { uint8_t cause, level, mission, marks; } no[8] = {
+            {0, 2, 2, 7}, {0, 1, 1, 7}, {2, 2, 0, 7}, {2, 4, 2, 7}, {2, 3, 1, 3}, {3, 1, 1, 7},
+            {3, 2, 1, 5}, {4, 2, 1, 14},
+        };
+        State s = full_state();
+        s.level = no[why].level;
+        s.mission = no[why].mission;
+        set_marks(&s, no[why].marks);
+        step_rec(2, &s, order_of(NEW, 0, no[why].cause), 4);              /* 4, 8 */
+        step_rec(2, &s, order_of(A, why & 1, no[why].cause), 4);          /* 4, 5, 8 */
+        vacate(&s, why % 4);
+        step_rec(2, &s, order_of(s.partner[(why + 1) % 4], 0, no[why].cause), 4);    /* 4, 5 */
+        step_rec(2, &s, order_of(NEW, 0, no[why].cause), 4);              /* 4 alone */
+    }
+    /* 5 before 8, the cause in force: its mark and all others stay; 8 and 5 alone too */
+    for (unsigned cause = 0; cause < 5; cause++)
+        for (unsigned place = 0; place < PLACES; place++) {
+            State s = full_state();
+            set_marks(&s, 7);
+            step_rec(2, &s, order_of(s.partner[place], place & 1, cause), 5);
+            step_rec(2, &s, order_of(place & 1 ? NEW : NEW_RIU, place >> 1, cause), 8);
+            const uint32_t who = s.partner[place];
+            vacate(&s, (place + 1 + cause) % 4 == place ? (place + 1) % 4 : (place + 1 + cause) % 4);
+            step_rec(2, &s, order_of(who, place >> 1, cause), 5);
+        }
+    /* 5 for each phase and type: order, and 38 (9 for an RIU, before 5) */
+    for (unsigned f = 0; f < 12; f++)
+        for (unsigned type = RBC; type <= RIU; type++) {
+            State s = with_x(1, 2);
+            const uint32_t who = type == RBC ? A : A_RIU;
+            hold_form(&s, (f + type) % 4, who, f);
+            step_rec(2, &s, order_of(who, f & 1, 1), 5);
+            step_rec(2, &s, message_of(who, 38, 0), type == RIU ? 9 : 5);
+        }
+    /* 9 before 8, before 5 and 8; 5 before 8 */
+    for (unsigned place = 0; place < PLACES; place++) {
+        State s = full_state();
+        hold(&s, place, NEW_RIU, place == 0 ? OPEN : place, OUTGOING, place == 0 || place == 3 ? 0 : 1);
+        step_rec(2, &s, message_of(0x01777777, 38, 0), 9);
+        step_rec(2, &s, message_of(NEW_RIU, 38, 0), 9);
+        hold(&s, place, NEW, LOST, INCOMING, 3);
+        step_rec(2, &s, message_of(NEW, 38, 0), 5);
+        step_rec(2, &s, message_of(0x00777777, 38, 0), 8);
+    }
+}
+
+static void refusals(void)
+{
+    step_refusals();
+    step_pairs();
+
+    /* cold start: 13 */
+    for (unsigned lowest = 0; lowest < 10; lowest++)
+        for (unsigned highest = 0; highest < 10; highest++)
+            cold_vector(2, lowest, highest, highest < 8 && lowest <= highest ? 0 : 13);
+    static const uint8_t far[8][2] = {{0, 255}, {255, 0}, {255, 255}, {128, 128}, {7, 135}, {129, 1},
+                                      {16, 17}, {1, 18}};
+    for (unsigned i = 0; i < 8; i++)
+        cold_vector(2, far[i][0], far[i][1], 13);
+
+    /* run: 12 before 11 */
+    const uint8_t mode = EV_MODE, unknown = 0;
+    State s = full_state();
+    long_vector(2, &s, &mode, 1, LOG_MOST + 1, 0xFFFFFFFF, 12, 0);
+    long_vector(2, &s, &unknown, 1, LOG_MOST + 1, 0, 12, 0);
+    for (unsigned how = 0; how < 5; how++) {
+        const State u = unsound(s, how);
+        if (how < 2)
+            long_vector(2, &u, &mode, 1, LOG_MOST + 1, how ? 7 : 0, 12, 0);
+        if (how == 3)
+            long_vector(2, &u, &mode, 1, LOG_MOST, 0xFFFFFFFF, 11, 0);
+        run_vector(2, &u, &mode, 1, 1, 11, 0);
+        run_vector(2, &u, &mode, 0, 1, 11, 0);          /* would be stop 0, 1, 3, 2 */
+        run_vector(2, &u, &mode, 1, 0, 11, 0);
+        run_vector(2, &u, &unknown, 1, 1, 11, 0);
+        run_vector(2, &u, rec5(EV_DROP, A_1).b, 4, 1, 11, 0);
+        run_vector(2, &u, rec5(EV_DROP, A_1).b, 5, 1, 11, 0);
+    }
+
+    /* image write: 10 before 11 */
+    for (unsigned how = 0; how < 5; how++) {
+        const State u = unsound(s, how);
+        const uint8_t small[4] = {0, 1, 20, 36};
+        write_vector(2, &s, small[how % 4], next_fill(), 10);
+        write_vector(2, &u, 37, next_fill(), 11);
+        write_vector(2, &u, 36, next_fill(), 10);
+        write_vector(2, &u, small[how % 4], next_fill(), 10);
+    }
+
+    /* image read: 1 (empty), 2, 1 (length), 11 */
+    uint8_t image[256] = {0};
+    image_store(&s, image);
+    for (unsigned bad = 0; bad < 3; bad++) {             /* sound, unsound twice */
+        static const uint8_t lengths[8] = {0, 1, 2, 36, 37, 38, 74, 255};
+        image[4] = bad == 1 ? 3 : 1;                     /* mission */
+        image[1] = bad == 2 ? 3 : 1;                     /* lowest X */
+        for (unsigned i = 0; i < 8; i++) {
+            const uint8_t kinds[5] = {0xA1, 0xA0, 0xA2, 0x00, 0x01};
+            for (unsigned k = 0; k < 5; k++) {
+                image[0] = kinds[k];
+                read_vector(2, image, lengths[i],
+                            lengths[i] == 0 ? 1 : k > 0 ? 2 : lengths[i] != 37 ? 1 : bad ? 11 : 0);
+            }
+        }
+    }
+}
+
+/* ---- group 3: fields ---- */
+
+static void fields(void)
+{
+    State s = with_x(1, 2), contacting, ending, inside;
+    s.level = 1;
+    hold(&s, 1, A, LOST, INCOMING, 2);
+    hold(&s, 2, A_RIU, CONNECTING, OUTGOING, 3);
+    contacting = ending = inside = s;
+    hold(&contacting, 3, A_1, CONTACTING, OUTGOING, 2);
+    hold(&ending, 3, A_1, ENDING, OUTGOING, 2);
+    inside.inside = 1;
+
+    /* the events without a partner, over all marks */
+    for (unsigned m = 0; m < 12; m++) {
+        State t = s;
+        set_marks(&t, marks12[m]);
+        t.level = (uint8_t)(m % 5);
+        t.mission = (uint8_t)(m % 3);
+        for (unsigned level = 0; level <= 4; level++)
+            step_rec(3, &t, rec3(EV_LEVEL, level, (m + level) % 2), 0);
+        for (unsigned mission = 0; mission <= 2; mission++)
+            step_rec(3, &t, rec2(EV_MISSION, mission), 0);
+        step_rec(3, &t, rec1(EV_MODE), 0);
+        step_rec(3, &t, rec2(EV_HOLE, 0), t.inside ? 0 : 7);
+        step_rec(3, &t, rec2(EV_HOLE, 1), t.inside ? 7 : 0);
+        step_rec(3, &t, rec2(EV_END_ALL, 0), 0);
+        step_rec(3, &t, rec2(EV_END_ALL, 1), 0);
+    }
+    static const uint8_t over4[3] = {5, 128, 255}, over1[3] = {2, 128, 255}, over2[3] = {3, 128, 255};
+    for (unsigned i = 0; i < 3; i++) {
+        step_rec(3, &s, rec3(EV_LEVEL, over4[i], 0), 3);
+        step_rec(3, &s, rec3(EV_LEVEL, over4[i], 1), 3);
+        step_rec(3, &s, rec3(EV_LEVEL, i, over1[i]), 3);
+        step_rec(3, &s, rec2(EV_MISSION, over2[i]), 3);
+        step_rec(3, &s, rec2(EV_HOLE, over1[i]), 3);
+        step_rec(3, &inside, rec2(EV_HOLE, over1[i]), 3);
+        step_rec(3, &s, rec2(EV_END_ALL, over1[i]), 3);
+        /* order: type, accepting, cause */
+        step_rec(3, &s, order_of((uint32_t)over1[i] << 24 | 0x10203, 1, 1), 3);
+        step_rec(3, &s, order_of(NEW, over1[i], 1), 3);
+        step_rec(3, &s, order_of(NEW, 1, over4[i]), 3);
+        step_rec(3, &s, order_of(NEW_RIU, 0, over4[i]), 3);
+        /* the other partner events: type */
+        for (unsigned c = 0; c < 7; c++)
+            step_rec(3, c == 6 ? &ending : &contacting, column(c, (uint32_t)over1[i] << 24 | 0x810203, 0x11), 3);
+        step_rec(3, &s, message_of((uint32_t)over1[i] << 24 | 0x810203, 38, 0), 3);
+    }
+    for (unsigned accepting = 0; accepting < 2; accepting++)
+        for (unsigned type = RBC; type <= RIU; type++)
+            for (unsigned cause = 0; cause <= 4; cause++) {
+                State t = s;                             /* every cause in force */
+                t.mission = 1;
+                t.level = 2;
+                set_marks(&t, 7);
+                step_rec(3, &t, order_of(type ? NEW_RIU : NEW, accepting, cause), 0);
+            }
+    /* message: number, version; in a phase that takes 32, one that takes 39, and from a new one */
+    for (unsigned number = 0; number < 256; number++) {
+        if (number > 1 && number < 30 && number != 22)
+            continue;
+        if (number > 41 && number != 64 && number != 127 && number != 128 && number != 154 &&
+            number != 160 && number != 166 && number != 167 && number != 255)
+            continue;
+        step_rec(3, &contacting, message_of(A_1, number, 0), number == 32 ? 0 : number == 38 ? 5 : number == 39 ? 7 : 3);
+        step_rec(3, &ending, message_of(A_1, number, 0), number == 32 ? 7 : number == 38 ? 5 : number == 39 ? 0 : 3);
+        step_rec(3, &s, message_of(NEW, number, 0), number == 32 || number == 39 ? 6 : number == 38 ? 0 : 3);
+    }
+    static const uint8_t versions[10] = {0, 1, 2, 16, 32, 126, 127, 128, 129, 255};
+    for (unsigned i = 0; i < 10; i++) {
+        const unsigned v = versions[i];
+        State t = contacting;
+        step_rec(3, &t, message_of(A_1, 32, v), v > 127 ? 3 : 0);
+        t.lowest = 0;
+        t.highest = 7;
+        step_rec(3, &t, message_of(A_1, 32, v), v > 127 ? 3 : 0);
+        t.lowest = 7;
+        step_rec(3, &t, message_of(A_1, 32, v), v > 127 ? 3 : 0);
+        step_rec(3, &s, message_of(NEW, 38, v), v > 0 ? 3 : 0);
+        step_rec(3, &ending, message_of(A_1, 39, v), v > 0 ? 3 : 0);
+    }
+    /* the number bytes take every value: 0, 128, 255 in each of the three */
+    static const uint8_t any[3] = {0, 128, 255};
+    for (unsigned i = 0; i < 3; i++)
+        for (unsigned at = 0; at < 3; at++) {
+            const uint32_t who = (0x00445566u & ~(255u << 8 * at)) | (uint32_t)any[i] << 8 * at;
+            State t = s;
+            step_rec(3, &t, order_of(who, 1, 1), 0);
+            step_rec(3, &t, order_of(who | 0x01000000, 0, 1), 0);
+            step_rec(3, &t, message_of(who, 38, 0), 0);
+            hold(&t, 0, who, CONTACTING, OUTGOING, 1);
+            step_rec(3, &t, column((i + at) % 4 == 1 ? 4 : (i + at) % 4, who, 0x20), 0);
+        }
+
+    /* the least and the largest number, both types, for each event where it is taken */
+    for (unsigned c = 0; c < 7; c++)
+        for (unsigned e = 0; e < 4; e++) {
+            const uint32_t who = (e & 1 ? 0x01000000u : 0) | (e & 2 ? 0xFFFFFFu : 0);
+            const uint8_t phase[7] = {CONNECTING, LOST, OPEN, ENDING, CONTACTING, CONTACTING, ENDING};
+            State t = s;
+            hold(&t, 3, who, phase[c], OUTGOING, phase[c] == OPEN ? 0 : 2);
+            step_rec(3, &t, column(c, who, c == 4 ? 0x20 : 0x7F), 0);
+            if (c == 0)
+                step_rec(3, &s, order_of(who, 0, 1), 0);
+            if (c == 0 && e % 2 == 0)
+                step_rec(3, &s, message_of(who, 38, 0), 0);
+        }
+
+    /* every length 0 to 8 of every kind, and 16; what is there is in range and would be taken */
+    for (unsigned kind = 1; kind <= KIND_LAST; kind++)
+        for (unsigned length = 0; length <= 16; length++) {
+            if (length > 8 && length != 16)
+                continue;
+            State t = kind == EV_MESSAGE ? ending : contacting;
+            if (kind == EV_UP)
+                hold(&t, 3, A_1, CONNECTING, OUTGOING, 1);
+            Rec r = rec5(kind, kind == EV_ORDER ? NEW : A_1);
+            if (kind == EV_LEVEL || kind == EV_MISSION || kind == EV_HOLE || kind == EV_END_ALL)
+                r.b[1] = 1, r.b[2] = 0;
+            r.b[5] = kind == EV_MESSAGE ? 39 : 0;
+            r.b[6] = kind == EV_ORDER ? 1 : 0;
+            step_vector(3, &t, r.b, length, length == record_length[kind] ? 0 : 1);
+        }
+    /* unknown kinds: all, of one byte and as long as another kind */
+    for (unsigned kind = 0; kind < 256; kind++) {
+        if (kind >= 1 && kind <= KIND_LAST)
+            continue;
+        const uint8_t lengths[6] = {1, 2, 3, 5, 7, 16};
+        const Rec r = rec7(kind, A_1, 39, 0);
+        step_vector(3, &ending, r.b, lengths[kind % 6], 2);
+        if (kind < 18 || kind > 253)
+            step_vector(3, &contacting, r.b, lengths[(kind + 3) % 6], 2);
+    }
+}
+
+/* ---- group 4: orders ---- */
+
+static void orders(void)
+{
+    /* every cause over level, mission and marks */
+    unsigned k = 0;
+    for (unsigned cause = 0; cause <= 4; cause++)
+        for (unsigned level = 0; level <= 4; level++)
+            for (unsigned mission = 0; mission <= 2; mission++)
+                for (unsigned m = 0; m < 8; m++, k++) {
+                    State s = with_x(1, 2);
+                    s.level = (uint8_t)level;
+                    s.mission = (uint8_t)mission;
+                    set_marks(&s, m & 1 ? m : m | (k / 2 + k / 8) % 2 << 3);     /* inside or not, too */
+                    if ((k + k / 8) % 2) {
+                        hold_form(&s, k % 4, A, k / 2);
+                        hold_form(&s, (k + 2) % 4, A_RIU, k / 3);
+                    }
+                    const bool l = level == 2 || level == 3;
+                    const bool force = cause == 0 ? mission == 1 && l : cause == 1 ? true :
+                                       cause == 2 ? mission != 0 && l && s.mode : cause == 3 ? l && s.manual :
+                                       s.hole_end == 1;
+                    step_rec(4, &s, order_of(k % 3 ? NEW : NEW_RIU, k / 5 % 2, cause), force ? 0 : 4);
+                }
+
+    /* incoming and other tries: an order that does not accept, over each form in each place */
+    for (unsigned place = 0; place < PLACES; place++)
+        for (unsigned f = 0; f < 20; f++) {
+            State s = with_x(1, 2);
+            hold_form(&s, place, A, f);
+            hold_form(&s, (place + 1) % 4, A_RIU, f + 7);
+            hold_form(&s, (place + 2) % 4, A_1, f + 13);
+            set_head(&s, place * 20 + f);
+            step_rec(4, &s, order_of(NEW, 0, 1), 0);
+            if (f % 4 == place)
+                step_rec(4, &s, order_of(NEW, 1, 1), 0);
+        }
+
+    /* all places taken, by all sorts: nothing is closed */
+    for (unsigned f = 0; f < 20; f++) {
+        State s = with_x(1, 2);
+        hold_form(&s, 0, A, f);
+        hold_form(&s, 1, A_1, f + 6);
+        hold_form(&s, 2, A_2, f + 11);
+        hold_form(&s, 3, f % 4 ? A_3 : A_RIU, f + 17);
+        set_marks(&s, 7);
+        s.level = 3;
+        s.mission = 1;
+        step_rec(4, &s, order_of(NEW, 0, f % 5), 8);
+    }
+    /* the partner has a place: nothing is closed */
+    for (unsigned f = 0; f < 20; f++) {
+        State s = with_x(1, 2);
+        hold_form(&s, f % 4, A, f);
+        hold_form(&s, (f + 1) % 4, A_1, 7 + f % 2);
+        hold_form(&s, (f + 2) % 4, A_2, 3 + 7 * (f % 2));
+        set_marks(&s, 7);
+        s.level = 2;
+        s.mission = 1;
+        step_rec(4, &s, order_of(A, 0, f % 5), 5);
+    }
+
+    /* every mix of phases and types in the four places, not accepting and accepting */
+    static const uint8_t head[8] = {1, 2, 3, 1, 0, 1, 1, 1};
+    uint8_t p0[7], p1[7];
+    for (unsigned accepting = 0; accepting < 2; accepting++)
+        for (unsigned a = 0; a <= 10; a++)
+            for (unsigned b = 0; b <= 10; b++) {
+                const Rec r = order_of(A, accepting, 1);
+                choice(p0, 0, a);
+                choice(p1, 1, b);
+                mix_vector(4, head, p0, p1, r.b, r.n);
+            }
+
+    /* some mixes for an order of an RIU, end all and mission 0; also incoming, other tries, and
+     * numbers that use all three bytes */
+    static const uint8_t special[6][7] = {
+        {LOST, INCOMING, 2, RBC, 1, 2, 3}, {OPEN, INCOMING, 0, RBC, 0x81, 2, 3},
+        {ENDING, INCOMING, 3, RBC, 1, 0x82, 3}, {CONTACTING, OUTGOING, 3, RIU, 1, 2, 3},
+        {LOST, OUTGOING, 3, RIU, 1, 2, 0x83}, {OPEN, OUTGOING, 0, RBC, 0, 0, 0},
+    };
+    static const uint8_t mixes[20][2] = {       /* 0..10 a choice, 11..16 the special ones */
+        {0, 0}, {0, 3}, {3, 3}, {3, 4}, {4, 3}, {8, 3}, {3, 8}, {9, 4}, {1, 2}, {6, 7},
+        {5, 10}, {10, 5}, {11, 0}, {12, 11}, {13, 14}, {15, 12}, {16, 3}, {2, 9}, {7, 1}, {14, 16},
+    };
+    for (unsigned what = 0; what < 3; what++)
+        for (unsigned i = 0; i < 20; i++) {
+            const unsigned a = mixes[i][0], b = mixes[i][1];
+            const uint8_t other[8] = {0, 7, (uint8_t)(i % 5), (uint8_t)(i % 3), 0, 1, 0, 1};
+            const Rec r = what == 0 ? order_of(NEW_RIU, 0, 1) : what == 1 ? rec2(EV_END_ALL, i % 2) :
+                          rec2(EV_MISSION, 0);
+            if (a > 10) memcpy(p0, special[a - 11], 7); else choice(p0, 0, a);
+            if (b > 10) memcpy(p1, special[b - 11], 7); else choice(p1, 1, b);
+            mix_vector(4, other, p0, p1, r.b, r.n);
+        }
+}
+
+/* ---- group 5: unsound states ---- */
+
+static void unsound_vectors(const State *s, unsigned place)
+{
+    static unsigned k;
+    if (sound(s))
+        fail("this state is sound");
+    /* each kind in turn, about the place in question */
+    const uint32_t who = s->partner[place];
+    const Rec turn[12] = {
+        rec3(EV_LEVEL, 2, 1), rec2(EV_MISSION, 0), rec2(EV_HOLE, !s->inside), order_of(NEW, 0, 1),
+        rec5(EV_DROP, who), rec2(EV_END_ALL, 1), rec5(EV_UP, who), rec5(EV_LOST, who),
+        rec5(EV_TIMEOUT, who), message_of(who, 32, 0x11), message_of(NEW, 38, 0), rec1(EV_MODE),
+    };
+    const Rec r = turn[k % 12];
+    uint8_t log[16];
+    step_rec(5, s, r, 11);
+    memcpy(log, r.b, r.n);
+    log[r.n] = EV_MODE;
+    run_vector(5, s, log, k % 13 == 12 ? 0 : r.n + 1, k % 5 == 4 ? 0 : 4096, 11, 0);
+    write_vector(5, s, k % 4 == 3 ? 45 : 37, next_fill(), 11);
+    k++;
+}
+
+static void unsounds(void)
+{
+    State base = with_x(1, 2), s;
+    base.level = 2;
+    base.mission = 1;
+    set_marks(&base, 6);
+    hold(&base, 0, A, LOST, INCOMING, 2);
+    hold(&base, 1, A_RIU, OPEN, OUTGOING, 0);
+    hold(&base, 3, A_1, CONNECTING, OUTGOING, 1);
+
+    static const uint8_t xs[14][2] = {{3, 2}, {1, 0}, {7, 6}, {1, 8}, {8, 8}, {9, 8}, {0, 255}, {255, 0},
+                                      {255, 255}, {8, 2}, {128, 129}, {2, 1}, {0, 8}, {7, 128}};
+    for (unsigned i = 0; i < 14; i++) {
+        s = base;
+        s.lowest = xs[i][0];
+        s.highest = xs[i][1];
+        unsound_vectors(&s, 0);
+    }
+    static const uint8_t levels[4] = {5, 6, 128, 255}, missions[4] = {3, 4, 128, 255};
+    for (unsigned i = 0; i < 4; i++) {
+        s = base;
+        s.level = levels[i];
+        unsound_vectors(&s, 1);
+    }
+    for (unsigned i = 0; i < 4; i++) {
+        s = base;
+        s.mission = missions[i];
+        unsound_vectors(&s, 3);
+    }
+    for (unsigned i = 0; i < 4; i++) {         /* inside a hole and hole end */
+        s = i & 1 ? with_x(0, 7) : base;
+        set_marks(&s, i < 2 ? 9 : 15);
+        unsound_vectors(&s, 0);
+    }
+    for (unsigned place = 0; place < PLACES; place++) {
+        /* type over 1 */
+        static const uint8_t types[4] = {2, 128, 255, 3};
+        for (unsigned i = 0; i < (place == 0 ? 4u : 3u); i++) {
+            s = base;
+            hold_form(&s, place, 0x00445566, 3 * i + place);
+            s.partner[place] |= (uint32_t)types[i] << 24;
+            unsound_vectors(&s, place);
+        }
+        for (unsigned phase = CONNECTING; phase <= ENDING; phase++) {
+            /* tries 0 and over 3 */
+            static const uint8_t tries[5] = {0, 4, 5, 128, 255};
+            for (unsigned i = 0; i < 5 && phase != OPEN; i++) {
+                s = base;
+                if (i >= 2 && (i + phase) % 4 != place)
+                    continue;
+                hold(&s, place, (phase + i) % 2 ? 0x00445566 : 0x01445566, phase, OUTGOING, tries[i]);
+                unsound_vectors(&s, place);
+                if (i < 2 && phase > OPEN) {
+                    hold(&s, place, 0x00445566, phase, INCOMING, tries[i]);
+                    unsound_vectors(&s, place);
+                }
+            }
+            /* an incoming RIU; Connecting and Contacting incoming */
+            const unsigned t = phase == OPEN ? 0 : 1 + (phase + place) % 3;
+            s = base;
+            hold(&s, place, 0x01445566, phase, INCOMING, t);
+            unsound_vectors(&s, place);
+            if (phase <= CONTACTING) {
+                hold(&s, place, 0x00445566, phase, INCOMING, t);
+                unsound_vectors(&s, place);
+            }
+        }
+    }
+    /* one partner in two places: each pair, alike and not; also RBC 0 and an RIU */
+    for (unsigned i = 0; i < PLACES; i++)
+        for (unsigned j = i + 1; j < PLACES; j++)
+            for (unsigned turn = 0; turn < 4; turn++) {
+                const uint32_t who[4] = {0x00445566, 0x01445566, 0x00000000, 0x00FFFFFF};
+                s = turn & 1 ? base : with_x(2, 3);
+                hold_form(&s, i, who[turn], turn * 5 + i);
+                hold_form(&s, j, who[turn], turn < 2 ? turn * 5 + i : 2 * turn + j);
+                unsound_vectors(&s, j);
+            }
+    /* the same partner three and four times */
+    s = with_x(1, 2);
+    for (unsigned i = 0; i < PLACES; i++) {
+        hold_form(&s, i, A, 2 + i);
+        if (i > 1)
+            unsound_vectors(&s, i);
+    }
+}
+
+/* ---- group 6: images ---- */
+
+static unsigned image_states(State *out)
+{
+    unsigned c = 0;
+    State s = with_x(1, 2);                    /* mixed */
+    s.level = 3;
+    s.mission = 2;
+    set_marks(&s, 6);
+    hold(&s, 0, A, LOST, INCOMING, 2);
+    hold(&s, 2, A_RIU, CONNECTING, OUTGOING, 3);
+    hold(&s, 3, 0x00C7A0B9, ENDING, INCOMING, 1);
+    out[c++] = s;
+
+    s = with_x(0, 7);                          /* full, numbers at their ends */
+    s.level = 4;
+    s.mission = 1;
+    set_marks(&s, 8);
+    hold(&s, 0, 0x00FFFFFF, OPEN, INCOMING, 0);
+    hold(&s, 1, 0x01FFFFFF, OPEN, OUTGOING, 0);
+    hold(&s, 2, 0x00000000, CONTACTING, OUTGOING, 3);
+    hold(&s, 3, 0x01000000, LOST, OUTGOING, 1);
+    out[c++] = s;
+
+    s = with_x(3, 5);
+    s.level = 2;
+    s.mission = 2;
+    set_marks(&s, 1);
+    hold(&s, 1, 0x01123456, ENDING, OUTGOING, 2);
+    hold(&s, 2, 0x00123456, OPEN, OUTGOING, 0);
+    hold(&s, 3, 0x00654321, CONTACTING, OUTGOING, 1);
+    out[c++] = s;
+
+    out[c++] = with_x(0, 0);                   /* cold */
+
+    s = with_x(7, 7);
+    s.level = 1;
+    set_marks(&s, 7);
+    hold(&s, 0, 0x00000000, ENDING, OUTGOING, 3);
+    out[c++] = s;
+
+    s = with_x(6, 7);
+    set_marks(&s, 14);
+    hold(&s, 3, 0x00000100, LOST, OUTGOING, 3);
+    out[c++] = s;
+    return c;
+}
+
+static void damage(const uint8_t *image, unsigned at, unsigned value)
+{
+    uint8_t b[IMAGE_BYTES];
+    memcpy(b, image, sizeof b);
+    b[at] = (uint8_t)value;
+    read_vector(6, b, sizeof b, ANY);
+}
+
+static void images(void)
+{
+    State s[8];
+    uint8_t b[256];
+    const unsigned c = image_states(s);
+
+    for (unsigned i = 0; i < c; i++) {
+        static const uint8_t lengths[6] = {36, 37, 38, 45, 0, 255};
+        static const uint8_t fills[4] = {0x00, 0xFF, 0xA1, 0x5A};
+        for (unsigned l = 0; l < 4; l++)
+            for (unsigned f = 0; f < 4; f++)
+                if (i == 0 || (f + l + i) % 2 == 0)
+                    write_vector(6, &s[i], lengths[l], fills[f], lengths[l] < 37 ? 10 : 0);
+        write_vector(6, &s[i], lengths[4], fills[i % 4], 10);
+        if (i == 0)
+            write_vector(6, &s[i], lengths[5], fills[i % 4], 0);
+
+        memset(b, 0, sizeof b);
+        image_store(&s[i], b);
+        static const uint8_t read_lengths[9] = {0, 1, 2, 9, 36, 37, 38, 45, 255};
+        for (unsigned l = 0; l < 9; l++)
+            read_vector(6, b, read_lengths[l], l == 5 ? 0 : 1);
+
+        /* each byte damaged */
+        if (i > 3)
+            continue;
+        static const uint8_t values[12] = {0, 1, 2, 3, 4, 5, 6, 7, 8, 128, 254, 255};
+        for (unsigned at = 0; at < IMAGE_BYTES; at++) {
+            const unsigned v = b[at];
+            const bool number = at >= 9 && (at - 9) % 7 >= 4;        /* takes any value, if held */
+            for (unsigned k = 0; k < 12; k++) {
+                if (values[k] == v || ((number || i == 3) && values[k] > 1 && values[k] < 255) ||
+                    (i > 0 && values[k] > 5 && values[k] < 255))
+                    continue;
+                damage(b, at, values[k]);
+            }
+            if (v != 255 && v + 1 > 8 && v + 1 != 128 && v + 1 != 254 && v + 1 != 255)
+                damage(b, at, v + 1);
+            if (v > 9 && v - 1 != 128 && v - 1 != 254)
+                damage(b, at, v - 1);
+        }
+    }
+
+    /* first byte wrong, of a sound image */
+    image_store(&s[0], b);
+    for (unsigned v = 0; v < 256; v += v < 0x9E || v > 0xA3 ? 17 : 1) {
+        b[0] = (uint8_t)v;
+        read_vector(6, b, IMAGE_BYTES, v == 0xA1 ? 0 : 2);
+    }
+
+    /* each form in each place alone: written and read */
+    for (unsigned place = 0; place < PLACES; place++)
+        for (unsigned f = 0; f < 20; f++)
+            for (unsigned type = RBC; type <= RIU; type++) {
+                State t = with_x(1, 2);
+                if ((type == RIU && form[f].direction) || (f + type + place) % 2)
+                    continue;
+                hold_form(&t, place, type ? A_RIU : A, f);
+                set_head(&t, f + place);
+                image_store(&t, b);
+                read_vector(6, b, IMAGE_BYTES, 0);
+                if ((f + type) % 4 == place)
+                    write_vector(6, &t, 37, next_fill(), 0);
+            }
+    /* every phase, direction, tries 0 to 4 and type 0 to 2 in one place; number 01 02 03 */
+    for (unsigned phase = 0; phase <= 6; phase++)
+        for (unsigned direction = 0; direction <= 1; direction++)
+            for (unsigned tries = 0; tries <= 4; tries++)
+                for (unsigned type = 0; type <= 1; type++) {
+                    State t = with_x(1, 2);
+                    image_store(&t, b);
+                    uint8_t *const p = b + 9 + 7 * ((phase + direction + tries + type) % 4);
+                    p[0] = (uint8_t)phase;
+                    p[1] = (uint8_t)direction;
+                    p[2] = (uint8_t)tries;
+                    p[3] = (uint8_t)type;
+                    p[4] = 1, p[5] = 2, p[6] = 3;
+                    const bool ok = phase >= 1 && phase <= 5 && (phase == OPEN ? tries == 0 : tries >= 1 && tries <= 3) &&
+                                    !(direction && (type || phase <= CONTACTING));
+                    read_vector(6, b, IMAGE_BYTES, ok ? 0 : 11);
+                }
+    /* the same partner in two places; same number, another type; RBC 0 twice, and once beside
+     * free places; the marks in all sixteen ways; the X numbers */
+    for (unsigned i = 0; i < PLACES; i++)
+        for (unsigned j = 0; j < PLACES; j++) {
+            if (i == j)
+                continue;
+            for (unsigned turn = 0; turn < 3; turn++) {
+                State t = with_x(1, 2);
+                hold_form(&t, i, turn == 2 ? 0 : A, 2 + 3 * turn + i);
+                hold_form(&t, j, turn == 1 ? A_RIU : turn == 2 ? 0 : A, 4 + 2 * turn + j);
+                image_store(&t, b);
+                read_vector(6, b, IMAGE_BYTES, turn == 1 ? 0 : 11);
+                if (turn == 2) {
+                    vacate(&t, j);
+                    write_vector(6, &t, 37, next_fill(), 0);
+                }
+            }
+        }
+    for (unsigned m = 0; m < 16; m++) {
+        State t = with_x(1, 2);
+        set_marks(&t, m);
+        image_store(&t, b);
+        read_vector(6, b, IMAGE_BYTES, (m & 9) == 9 ? 11 : 0);
+        write_vector(6, &t, 37, next_fill(), (m & 9) == 9 ? 11 : 0);
+    }
+    for (unsigned lowest = 0; lowest < 9; lowest++)
+        for (unsigned highest = 0; highest < 9; highest++) {
+            const State t = with_x(lowest, highest);
+            image_store(&t, b);
+            if (lowest < 2 || highest > 6 || (lowest > highest ? lowest - highest : highest - lowest) < 2)
+                read_vector(6, b, IMAGE_BYTES, highest < 8 && lowest <= highest ? 0 : 11);
+        }
+}
+
+/* ---- group 7: buffers ---- */
+
+static void buffers(void)
+{
+    typedef struct { State s; Rec r; unsigned code, count; } Buffered;
+    Buffered x[48];
+    unsigned c = 0;
+    State none = with_x(1, 2), some = full_state(), open = full_state(), full = full_state(), bad;
+    vacate(&some, 1);                          /* RBC Open, free, RBC Lost, RBC Contacting */
+    set_marks(&some, 6);
+    for (unsigned i = 0; i < PLACES; i++) {
+        hold(&open, i, i == 3 ? 0 : A + i, OPEN, i & 1, 0);
+        hold(&full, i, A_RIU + i, i % 2 ? LOST : OPEN, OUTGOING, i % 2);
+    }
+    bad = full;
+    bad.level = 5;
+
+    x[c++] = (Buffered){some, rec3(EV_LEVEL, 3, 1), 0, 0};
+    x[c++] = (Buffered){some, rec1(EV_MODE), 0, 0};
+    x[c++] = (Buffered){some, rec5(EV_UP, A_1), 0, 0};
+    x[c++] = (Buffered){none, rec2(EV_END_ALL, 0), 0, 0};
+    x[c++] = (Buffered){none, order_of(A_RIU, 0, 1), 0, 1};
+    x[c++] = (Buffered){some, message_of(A_2, 38, 0), 0, 1};
+    x[c++] = (Buffered){some, rec5(EV_LOST, A), 0, 1};
+    x[c++] = (Buffered){some, rec5(EV_TIMEOUT, A_3), 0, 1};
+    x[c++] = (Buffered){some, message_of(A_3, 32, 0x30), 0, 2};
+    vacate(&some, 2);
+    x[c++] = (Buffered){some, order_of(NEW, 0, 1), 0, 2};
+    x[c++] = (Buffered){some, rec2(EV_END_ALL, 1), 0, 2};
+    hold(&some, 2, A_1, LOST, OUTGOING, 2);
+    x[c++] = (Buffered){some, order_of(NEW, 0, 1), 0, 3};
+    x[c++] = (Buffered){some, rec2(EV_MISSION, 0), 0, 3};
+    x[c++] = (Buffered){open, rec2(EV_END_ALL, 0), 0, 4};
+    x[c++] = (Buffered){full, rec2(EV_MISSION, 0), 0, 4};
+    vacate(&open, 2);
+    x[c++] = (Buffered){open, order_of(NEW, 0, 1), 0, 4};
+    const unsigned accepted = c;
+    x[c++] = (Buffered){some, rec0(), 1, 0};
+    x[c++] = (Buffered){some, rec1(12), 2, 0};
+    x[c++] = (Buffered){some, rec2(EV_MODE, 0), 1, 0};
+    x[c++] = (Buffered){some, order_of(NEW, 0, 5), 3, 0};
+    x[c++] = (Buffered){some, order_of(NEW, 0, 4), 4, 0};
+    x[c++] = (Buffered){some, order_of(A, 0, 1), 5, 0};
+    x[c++] = (Buffered){some, rec5(EV_DROP, NEW), 6, 0};
+    x[c++] = (Buffered){some, rec5(EV_TIMEOUT, A), 7, 0};
+    x[c++] = (Buffered){full, order_of(NEW, 0, 1), 8, 0};
+    x[c++] = (Buffered){some, message_of(NEW_RIU, 38, 0), 9, 0};
+    x[c++] = (Buffered){bad, rec2(EV_END_ALL, 0), 11, 0};
+
+    for (unsigned i = 0; i < c; i++) {
+        static const uint8_t lengths[8] = {0, 19, 20, 21, 40, 5, 15, 255};
+        static const uint8_t fills[3] = {0x00, 0xFF, 0xA5};
+        for (unsigned l = 0; l < 8; l++)
+            for (unsigned f = 0; f < 3; f++) {
+                if (l > 4 && (f > 0 || i >= accepted))
+                    continue;
+                if (i < accepted && (lengths[l] == 0 || lengths[l] == 21) && f == i % 3)
+                    continue;
+                if (i >= accepted && lengths[l] != 20 && f != (i + l) % 3)
+                    continue;
+                const unsigned code_wanted = lengths[l] < 20 ? 10 : x[i].code;
+                if (step_in(7, &x[i].s, x[i].r.b, x[i].r.n, lengths[l], fills[f], code_wanted) !=
+                    (code_wanted ? 0 : x[i].count))
+                    fail("another count of actions");
+            }
+    }
+}
+
+/* ---- group 8: runs ---- */
+
+typedef struct { uint8_t b[6000]; size_t n; unsigned records; } Log;
+
+static void put(Log *l, Rec r)
+{
+    if (l->n + r.n > sizeof l->b)
+        fail("log too long");
+    memcpy(l->b + l->n, r.b, r.n);
+    l->n += r.n;
+    l->records++;
+}
+
+static void session(Log *l, uint32_t who)      /* P1 */
+{
+    put(l, order_of(who, 1, 1));
+    put(l, rec5(EV_UP, who));
+    put(l, message_of(who, 32, 0x11));
+    put(l, rec5(EV_DROP, who));
+    put(l, message_of(who, 39, 0));
+}
+
+/* A session with every action and every refusal 3 to 9 in it. */
+static void rich(Log *l)
+{
+    put(l, rec2(EV_MISSION, 1));
+    put(l, rec3(EV_LEVEL, 2, 1));
+    put(l, order_of(A, 0, 0));                 /* 21 */
+    put(l, rec5(EV_TIMEOUT, A));               /* 21 */
+    put(l, rec5(EV_UP, A));                    /* 155 */
+    put(l, rec5(EV_TIMEOUT, A));               /* 155 */
+    put(l, rec5(EV_TIMEOUT, A));               /* 155 */
+    put(l, message_of(A, 32, 0x2F));           /* 159 */
+    put(l, message_of(A_1, 38, 0));            /* 159 */
+    put(l, order_of(A, 0, 3));                 /* 5: the mark stays */
+    put(l, rec3(EV_LEVEL, 5, 0));              /* 3 */
+    put(l, order_of(A_RIU, 0, 4));             /* 4 */
+    put(l, message_of(A_RIU, 38, 0));          /* 9 */
+    put(l, order_of(A_RIU, 0, 3));             /* 21, the manual mark used */
+    put(l, rec5(EV_UP, A_RIU));                /* 155 */
+    put(l, message_of(A_RIU, 32, 0x0F));       /* 154 156 */
+    put(l, rec5(EV_LOST, A_1));                /* 21 */
+    put(l, order_of(NEW, 0, 1));               /* 156 22 21 */
+    put(l, order_of(A_2, 1, 1));               /* 21, the place of A_1 */
+    put(l, order_of(A_3, 1, 1));               /* 8 */
+    put(l, rec5(EV_DROP, A_1));                /* 6 */
+    put(l, rec2(EV_HOLE, 0));                  /* 7 */
+    put(l, rec5(EV_DROP, A_RIU));              /* 7 */
+    put(l, rec5(EV_TIMEOUT, A));               /* 156 */
+    put(l, rec1(EV_MODE));
+    put(l, rec2(EV_END_ALL, 0));               /* 22 22 */
+    put(l, message_of(A_RIU, 39, 0));          /* 22 */
+    put(l, rec5(EV_LOST, A));                  /* 22 */
+}
+
+static void runs(void)
+{
+    static Log l, tail;
+    const State cold = with_x(1, 2);
+    State s;
+
+    /* nothing */
+    run_vector(8, &cold, l.b, 0, 0, 0, 0);
+    run_vector(8, &cold, l.b, 0, 1, 0, 0);
+    run_vector(8, &cold, l.b, 0, 0xFFFFFFFF, 0, 0);
+    s = full_state();
+    run_vector(8, &s, l.b, 0, 0, 0, 0);
+    run_vector(8, &s, l.b, 0, 4096, 0, 0);
+
+    /* budgets of the session and of the rich log; whole, then with tails of every sort */
+    for (unsigned which = 0; which < 2; which++) {
+        l.n = l.records = 0;
+        if (which == 0)
+            session(&l, 0x00000005);
+        else
+            rich(&l);
+        const unsigned m = l.records;
+        for (unsigned budget = 0; budget <= m + 2; budget++)
+            if (which == 0 || budget < 2 || budget + 2 > m || budget % 5 == 0)
+                run_vector(8, &cold, l.b, l.n, budget, 0, budget < m ? 1 : 0);
+        const uint32_t large[6] = {255, 256, 65535, 65536, 0x80000000, 0xFFFFFFFF};
+        for (unsigned i = 0; i < 6; i++)
+            if (which == 0 || i > 4)
+                run_vector(8, &cold, l.b, l.n, large[i], 0, 0);
+        for (size_t cut = 0; cut < l.n; cut += which == 0 ? 1 : 23)      /* cut at each byte */
+            run_vector(8, &cold, l.b, cut, 4096, 0, ANY);
+        static const uint8_t unknown[7] = {0, 12, 13, 32, 128, 161, 255};
+        for (unsigned i = 0; i < (which == 0 ? 7u : 2u); i++) {
+            tail = l;
+            tail.b[tail.n++] = unknown[i];
+            run_vector(8, &cold, tail.b, tail.n, m - 1, 0, 1);
+            run_vector(8, &cold, tail.b, tail.n, m, 0, 1);               /* used up comes first */
+            run_vector(8, &cold, tail.b, tail.n, m + 1, 0, 3);
+            tail.b[tail.n++] = EV_MODE;                                  /* not read */
+            run_vector(8, &cold, tail.b, tail.n, m + 1, 0, 3);
+            run_vector(8, &cold, tail.b + l.n, tail.n - l.n, 0, 0, 1);
+            run_vector(8, &cold, tail.b + l.n, tail.n - l.n, 1, 0, 3);
+            memset(tail.b + l.n, unknown[i], 9);
+            run_vector(8, &cold, tail.b, l.n + 9, 4096, 0, 3);
+        }
+        for (unsigned kind = 1; kind <= KIND_LAST; kind++)
+            for (unsigned cut = 1; cut < record_length[kind]; cut++) {
+                if (which == 1 && (cut > 1 || (kind != EV_LEVEL && kind != EV_MESSAGE)))
+                    continue;
+                tail = l;
+                put(&tail, rec7(kind, 0x00000005, 39, 0));
+                const size_t length = l.n + record_length[kind] - cut;
+                run_vector(8, &cold, tail.b, length, 4096, 0, 2);
+                if (cut == 1) {
+                    run_vector(8, &cold, tail.b, length, m, 0, 1);       /* used up comes first */
+                    run_vector(8, &cold, tail.b, length, m + 1, 0, 2);
+                    run_vector(8, &cold, tail.b, length + 1, m + 1, 0, 0);
+                    run_vector(8, &cold, tail.b, length + 1, m, 0, 1);
+                    run_vector(8, &cold, tail.b + l.n, length - l.n, 1, 0, 2);
+                    run_vector(8, &cold, tail.b + l.n, length - l.n, 0, 0, 1);
+                }
+                
+            }
+    }
+
+    /* one record of each kind alone, and one with a field out of range */
+    s = full_state();
+    vacate(&s, 1);
+    hold(&s, 2, A_1, ENDING, INCOMING, 1);
+    for (unsigned kind = 1; kind <= KIND_LAST; kind++) {
+        const Rec r = rec7(kind, kind == EV_ORDER ? NEW : A_1, kind == EV_MESSAGE ? 39 : 0, kind == EV_ORDER);
+        Rec bad = r;
+        bad.b[1] = 255;
+        run_vector(8, &s, r.b, record_length[kind], 1, 0, 0);
+        run_vector(8, &s, bad.b, record_length[kind], 1, 0, 0);
+        run_vector(8, &s, bad.b, record_length[kind], 0, 0, 1);
+    }
+    /* refused records only; each refusal 3 to 9 alone and repeated */
+    static Case cases[80];
+    const size_t c = single_refusals(cases);
+    for (size_t i = 0; i < c; i++)
+        if (cases[i].code >= 3) {
+            l.n = l.records = 0;
+            put(&l, cases[i].r);
+            run_vector(8, &cases[i].s, l.b, l.n, 9, 0, 0);
+            put(&l, cases[i].r);
+            put(&l, rec1(EV_MODE));
+            run_vector(8, &cases[i].s, l.b, l.n, i % 2 ? 2 : 3, 0, i % 2 ? 1 : 0);
+        }
+
+    /* random logs, from cold and from where the one before ended */
+    Rng g = {0x8A5CADE5EED0001u};
+    s = cold;
+    for (unsigned i = 0; i < 35; i++) {
+        if (i % 8 == 0)
+            s = with_x(i % 3, 1 + i % 7);
+        State t = s;
+        l.n = l.records = 0;
+        const unsigned m = i == 7 || i == 23 ? 500 : 30 + rng_below(&g, 50);
+        for (unsigned k = 0; k < m; k++) {
+            Rec r;
+            uint8_t a[ACTION_BUFFER];
+            r.n = gen_record(&g, &t, true, r.b);
+            put(&l, r);
+            step(&t, r.b, r.n, a, sizeof a);
+        }
+        const unsigned turn = i % 5;
+        if (turn == 0)
+            run_vector(8, &s, l.b, l.n, m, 0, 0);
+        else if (turn == 1)
+            run_vector(8, &s, l.b, l.n, m - 1 - rng_below(&g, m - 1), 0, 1);
+        else if (turn == 2)
+            run_vector(8, &s, l.b, l.n - 1, 0xFFFFFFFF, 0, ANY);
+        else if (turn == 3) {
+            l.b[l.n++] = (uint8_t)(rng_below(&g, 2) ? 0 : 12 + rng_below(&g, 244));
+            run_vector(8, &s, l.b, l.n, m + 1, 0, 3);
+        } else
+            run_vector(8, &s, l.b, l.n, 4096, 0, 0);
+        s = t;
+    }
+
+    /* long logs */
+    const uint8_t mode = EV_MODE;
+    static Log p1, richer, refused, churn, many155, many156, many159;
+    session(&p1, 0x00000005);
+    rich(&richer);
+    put(&refused, rec5(EV_TIMEOUT, A));        /* 6 */
+    put(&refused, rec2(EV_HOLE, 0));           /* 7 */
+    put(&churn, order_of(A, 1, 1));            /* 21, 22: more than 65,535 of both */
+    put(&churn, rec5(EV_DROP, A));
+    put(&many155, order_of(A, 1, 1));          /* more than 65,535 of 155, of 156, of 159 */
+    put(&many155, rec5(EV_UP, A));
+    put(&many156, message_of(A, 38, 0));
+    put(&many156, rec5(EV_DROP, A));
+    for (unsigned i = 0; i < 3; i++) {
+        put(&many155, rec5(EV_TIMEOUT, A));
+        put(&many156, rec5(EV_TIMEOUT, A));
+    }
+    for (unsigned i = 0; i < PLACES; i++)
+        put(&many159, message_of(A + i, 38, 0));
+    put(&many159, rec2(EV_END_ALL, 0));
+    for (unsigned i = 0; i < PLACES; i++)
+        put(&many159, rec5(EV_LOST, A + i));
+    long_vector(8, &cold, &mode, 1, LOG_MOST, 0xFFFFFFFF, 0, 0);
+    long_vector(8, &cold, &mode, 1, LOG_MOST, LOG_MOST, 0, 0);
+    long_vector(8, &cold, &mode, 1, LOG_MOST, LOG_MOST - 1, 0, 1);
+    long_vector(8, &cold, &mode, 1, LOG_MOST, LOG_MOST + 1, 0, 0);
+    long_vector(8, &cold, &mode, 1, LOG_MOST - 1, 0xFFFFFFFF, 0, 0);
+    long_vector(8, &cold, &mode, 1, LOG_MOST + 1, 0xFFFFFFFF, 12, 0);
+    long_vector(8, &cold, &mode, 1, LOG_MOST + 1, 0, 12, 0);
+    long_vector(8, &cold, &mode, 1, LOG_MOST, 0, 0, 1);
+    long_vector(8, &cold, &mode, 1, 0, 0, 0, 0);
+    long_vector(8, &cold, &mode, 1, 65535, 65536, 0, 0);
+    long_vector(8, &cold, &mode, 1, 65536, 65536, 0, 0);
+    long_vector(8, &cold, &mode, 1, 65537, 65536, 0, 1);
+    long_vector(8, &cold, p1.b, p1.n, LOG_MOST, 0xFFFFFFFF, 0, ANY);
+    long_vector(8, &cold, p1.b, p1.n, LOG_MOST / 31 * 31, 0xFFFFFFFF, 0, 0);
+    long_vector(8, &cold, p1.b, p1.n, LOG_MOST, 100000, 0, 1);
+    long_vector(8, &cold, p1.b, p1.n, LOG_MOST + 1, 100000, 12, 0);
+    s = full_state();
+    long_vector(8, &s, p1.b, p1.n, 70000, 0xFFFFFFFF, 0, ANY);
+    long_vector(8, &cold, richer.b, richer.n, LOG_MOST, 0xFFFFFFFF, 0, ANY);
+    long_vector(8, &cold, richer.b, richer.n - 3, 100000, 0xFFFFFFFF, 0, ANY);
+    long_vector(8, &cold, refused.b, refused.n, LOG_MOST, 0xFFFFFFFF, 0, ANY);
+    long_vector(8, &cold, churn.b, churn.n, LOG_MOST, 0xFFFFFFFF, 0, ANY);
+    long_vector(8, &cold, many155.b, many155.n, LOG_MOST, 0xFFFFFFFF, 0, ANY);
+    long_vector(8, &cold, many156.b, many156.n, LOG_MOST, 0xFFFFFFFF, 0, ANY);
+    long_vector(8, &cold, many159.b, many159.n, LOG_MOST, 0xFFFFFFFF, 0, ANY);
+    richer.b[richer.n] = 12;                   /* unknown kind after the first session */
+    long_vector(8, &cold, richer.b, richer.n + 1, LOG_MOST, 0xFFFFFFFF, 0, 3);
+}
+
+/* ---- group 9: histories ---- */
+
+static void histories(void)
+{
+    Rng g = {0x5EED0F0115704153u};
+    for (unsigned h = 0; h < 3000; h++)
+        history_vector(9, &g, 20 + rng_below(&g, 11));
+}
+
+/* ---- the program ---- */
+
+static void make_all(void)
+{
+    cells();
+    refusals();
+    fields();
+    orders();
+    unsounds();
+    images();
+    buffers();
+    runs();
+    histories();
+}
+
+static void list(void)
+{
+    size_t vectors_of[GROUPS + 1] = {0}, bytes_of[GROUPS + 1] = {0}, op_of[GROUPS + 1][OPS + 1] = {{0}};
+    for (size_t i = 0; i < count; i++) {
+        vectors_of[vectors[i].group]++;
+        bytes_of[vectors[i].group] += vectors[i].length + 2;
+        op_of[vectors[i].group][vectors[i].op]++;
+    }
+    for (int g = 1; g <= GROUPS; g++) {
+        printf("group %d %-9s %5zu vectors %8zu bytes  ", g, group_name[g], vectors_of[g], bytes_of[g]);
+        for (int o = 1; o <= OPS; o++)
+            if (op_of[g][o])
+                printf(" op %d: %zu", o, op_of[g][o]);
+        putchar('\n');
+    }
+    printf("all               %5zu vectors %8zu bytes\n", count, used);
+}
+
+static int put_file(const char *name, const uint8_t *b, size_t length)
+{
+    FILE *const f = fopen(name, "wb");
+    if (!f || fwrite(b, 1, length, f) != length || fclose(f) != 0) {
+        perror(name);
+        return 1;
+    }
+    return 0;
+}
+
+static int small(const char *name, unsigned long spoil)
+{
+    static uint8_t out[60000];
+    static uint8_t take[sizeof vectors / sizeof vectors[0]];
+    size_t length = 0, chosen = 0;
+
+    for (int g = 1; g <= GROUPS; g++)
+        for (int o = 1; o <= OPS; o++) {
+            size_t all = 0, k = 0;
+            for (size_t i = 0; i < count; i++)
+                all += vectors[i].group == g && vectors[i].op == o;
+            const size_t some = g == 1 || o == OP_HISTORY || (g == 2 && o == OP_STEP) ? 4 : o == OP_STEP || o == OP_MIX ? 3 : 2;
+            for (size_t i = 0; i < count; i++)
+                if (vectors[i].group == g && vectors[i].op == o) {
+                    for (size_t j = 0; j < some; j++)        /* the middle of each part */
+                        if (k == (2 * j + 1) * all / (2 * some))
+                            take[i] = 1;
+                    k++;
+                }
+        }
+    for (size_t i = 0; i < count; i++) {
+        const Vector *const v = &vectors[i];
+        if (!take[i])
+            continue;
+        if (length + 2 + v->length > sizeof out) {
+            fputs("the small file is too large\n", stderr);
+            return 1;
+        }
+        memcpy(out + length, bytes + v->at - 2, v->length + 2);
+        chosen++;
+        if (chosen == spoil) {
+            const char *what = "expected code";
+            uint32_t at = v->code_at;
+            if (spoil % 3 == 1 && v->action_at) {
+                what = v->op == OP_RUN || v->op == OP_LONG ? "total" : "action number";
+                at = v->action_at;
+            } else if (spoil % 3 == 2) {
+                what = v->op == OP_MIX ? "partner number in the last state" : "level of the expected state";
+                at = v->state_at;
+            }
+            uint8_t *const b = out + length + 2 + at;
+            const uint8_t old = *b;
+            *b = at == v->code_at ? (old ? 0 : 7) : old ^ 1;
+            printf("spoiled vector %zu (group %u, op %u): body byte %u, %s, %u instead of %u\n",
+                   chosen, v->group, v->op, at, what, *b, old);
+        }
+        length += 2 + v->length;
+    }
+    if (spoil > chosen) {
+        fprintf(stderr, "only %zu vectors\n", chosen);
+        return 1;
+    }
+    printf("%zu vectors, %zu bytes\n", chosen, length);
+    return put_file(name, out, length);
+}
+
+int main(int argc, char **argv)
+{
+    if (argc == 2 && strcmp(argv[1], "list") == 0) {
+        make_all();
+        list();
+        return 0;
+    }
+    if (argc == 3 && strcmp(argv[1], "write") == 0) {
+        make_all();
+        return put_file(argv[2], bytes, used);
+    }
+    if (argc == 4 && strcmp(argv[1], "write-small") == 0) {
+        char *rest;
+        const unsigned long spoil = strtoul(argv[3], &rest, 10);
+        if (argv[3][0] != '\0' && *rest == '\0') {
+            make_all();
+            return small(argv[2], spoil);
+        }
+    }
+    fputs("usage: vectors list | write FILE | write-small FILE SPOIL\n", stderr);
+    return 2;
+}
