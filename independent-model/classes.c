@@ -58,6 +58,7 @@ int main(int argc, char **argv)
         fputs("usage: classes OTHERS PHASE [EVENT]\n", stderr);
         return 2;
     }
+    put((uint8_t[]){EV_LEVEL, 2, 0}, 3);    /* so that no log is empty: a program reads that one in another way */
     for (int i = 1; i <= atoi(argv[1]); i++)
         message((uint8_t)(PARTNER + i), 38, 0);
     bring(atoi(argv[2]));
