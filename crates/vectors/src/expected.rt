@@ -40,7 +40,7 @@ fn mark_is(mark: bool, s: &[u8], at: usize) -> bool {
 }
 
 // Whether the first two bytes are the limits.
-pub fn limits_are(limits: Limits, s: &[u8]) -> bool {
+pub(crate) fn limits_are(limits: Limits, s: &[u8]) -> bool {
     and(word_is(limits.lowest, s, 0), word_is(limits.highest, s, 1))
 }
 
@@ -49,7 +49,7 @@ fn train_is(train: Train, s: &[u8]) -> bool {
 }
 
 // Whether bytes 4 to 7 are the marks.
-pub fn marks_are(marks: Marks, s: &[u8]) -> bool {
+pub(crate) fn marks_are(marks: Marks, s: &[u8]) -> bool {
     and(
         and(mark_is(marks.inside, s, 4), mark_is(marks.mode, s, 5)),
         and(mark_is(marks.manual, s, 6), mark_is(marks.end, s, 7)),
@@ -108,7 +108,7 @@ fn place_is(place: Place, s: &[u8]) -> bool {
 }
 
 // Whether the bytes at the front are those of the four places.
-pub fn places_are(state: State, s: &[u8]) -> bool {
+pub(crate) fn places_are(state: State, s: &[u8]) -> bool {
     and(
         and(
             place_is(state.places[0], s),
@@ -122,7 +122,7 @@ pub fn places_are(state: State, s: &[u8]) -> bool {
 }
 
 // Whether the 36 bytes at the front are those of a state, sound or not.
-pub fn state_is(state: State, s: &[u8]) -> bool {
+pub(crate) fn state_is(state: State, s: &[u8]) -> bool {
     and(head_is(state, s), places_are(state, rest(s, HEAD_SIZE)))
 }
 
@@ -134,14 +134,14 @@ fn actions_size(s: &[u8]) -> usize
 }
 
 // The bytes of a code, a count and so many actions at the front.
-pub fn sent_size(s: &[u8]) -> usize
+pub(crate) fn sent_size(s: &[u8]) -> usize
     ensures { λ r. ⌜ r < 1282 ⌝ }
 {
     SENT_SIZE + actions_size(s)
 }
 
 // Whether the bytes at the front are a code, a count and so many actions, which stand at the front of a buffer.
-pub fn sent_is(code: u8, count: usize, buffer: &[u8], s: &[u8]) -> bool {
+pub(crate) fn sent_is(code: u8, count: usize, buffer: &[u8], s: &[u8]) -> bool {
     let size = actions_size(s);
     and(
         and(code == byte_at(s, 0), count == number_at(s, 1)),

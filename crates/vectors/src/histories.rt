@@ -67,7 +67,7 @@ impl Walk {
 }
 
 // A history.
-pub fn history_holds(s: &[u8]) -> bool {
+pub(crate) fn history_holds(s: &[u8]) -> bool {
     let start = cold_start(limits_in(s));
     let state = start.state;
     let walk = Walk {

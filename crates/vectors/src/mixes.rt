@@ -154,7 +154,7 @@ impl Row {
 }
 
 // All mixes of the choices for places 2 and 3.
-pub fn mixes_hold(s: &[u8]) -> bool {
+pub(crate) fn mixes_hold(s: &[u8]) -> bool {
     let mut row = Row {
         holds: true,
         at: RECORD_AT + 1 + number_at(s, RECORD_AT),

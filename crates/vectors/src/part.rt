@@ -5,28 +5,28 @@ ghost use lib.ListN.{length};
 use record::read::byte_at;
 
 // The number of a byte.
-pub fn wide(n: u8) -> usize
+pub(crate) fn wide(n: u8) -> usize
     ensures { λ r. ⌜ r ≡ n ⌝ }
 {
     n as usize
 }
 
 // The same as a number of 32 bits.
-pub fn word(n: u8) -> u32
+pub(crate) fn word(n: u8) -> u32
     ensures { λ r. ⌜ r ≡ n ⌝ }
 {
     n as u32
 }
 
 // The number of a byte at a place.
-pub fn number_at(s: &[u8], at: usize) -> usize
+pub(crate) fn number_at(s: &[u8], at: usize) -> usize
     ensures { λ r. ⌜ r < 256 ⌝ }
 {
     wide(byte_at(s, at))
 }
 
 // The sum; the largest number where the sum is larger.
-pub fn sum(a: usize, b: usize) -> usize {
+pub(crate) fn sum(a: usize, b: usize) -> usize {
     if a <= usize::MAX - b {
         a + b
     } else {
@@ -35,40 +35,40 @@ pub fn sum(a: usize, b: usize) -> usize {
 }
 
 // 256 bytes of one number: room for any buffer of a vector. The `ensures` gives only the length.
-pub fn filled(fill: u8) -> [u8; 256]
+pub(crate) fn filled(fill: u8) -> [u8; 256]
     ensures { λ r. ⌜ 256 ≡ length r ⌝ }
 {
     [fill; 256]
 }
 
 // The bytes from a place on.
-pub fn rest(s: &[u8], at: usize) -> &[u8] {
+pub(crate) fn rest(s: &[u8], at: usize) -> &[u8] {
     if at <= s.len() { &s[at..] } else { &s[..0] }
 }
 
 // The first n bytes, or all where there are fewer.
-pub fn front(s: &[u8], n: usize) -> &[u8] {
+pub(crate) fn front(s: &[u8], n: usize) -> &[u8] {
     if n <= s.len() { &s[0..n] } else { s }
 }
 
 // The bytes that the length in the first byte announces.
-pub fn announced(s: &[u8]) -> &[u8] {
+pub(crate) fn announced(s: &[u8]) -> &[u8] {
     front(rest(s, 1), number_at(s, 0))
 }
 
 // What stands after them.
-pub fn beyond(s: &[u8]) -> &[u8] {
+pub(crate) fn beyond(s: &[u8]) -> &[u8] {
     rest(s, 1 + number_at(s, 0))
 }
 
 // The number in two bytes at a place.
-pub fn short_at(s: &[u8], at: usize) -> usize
+pub(crate) fn short_at(s: &[u8], at: usize) -> usize
     ensures { λ r. ⌜ r < 65536 ⌝ }
 {
     number_at(s, at) * 256 + number_at(s, sum(at, 1))
 }
 
 // The number in four bytes at a place.
-pub fn long_at(s: &[u8], at: usize) -> usize {
+pub(crate) fn long_at(s: &[u8], at: usize) -> usize {
     short_at(s, at) * 65536 + short_at(s, sum(at, 2))
 }

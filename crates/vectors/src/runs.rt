@@ -67,7 +67,7 @@ fn report_is(report: Report, s: &[u8]) -> bool {
 }
 
 // A run over a log of the vector.
-pub fn run_holds(s: &[u8]) -> bool {
+pub(crate) fn run_holds(s: &[u8]) -> bool {
     let numbers = rest(s, STATE_SIZE);
     let length = short_at(numbers, 4);
     let bytes = rest(numbers, 6);
@@ -112,7 +112,7 @@ fn lent_run_is(state: State, log: &mut [u8; 1048577], numbers: &[u8]) -> bool {
 }
 
 // A run over a pattern that is repeated and cut, to a log of at most one byte more than a run takes.
-pub fn long_run_holds(s: &[u8]) -> bool {
+pub(crate) fn long_run_holds(s: &[u8]) -> bool {
     let mut log = [0u8; 1048577];
     lent_run_is(state_in(s), &mut log, rest(s, STATE_SIZE))
 }

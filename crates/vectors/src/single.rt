@@ -22,7 +22,7 @@ use unit::state::cold_start;
 const ANSWER_SIZE: usize = 38;
 
 // The limits in two bytes.
-pub fn limits_in(s: &[u8]) -> Limits {
+pub(crate) fn limits_in(s: &[u8]) -> Limits {
     Limits {
         lowest: word(byte_at(s, 0)),
         highest: word(byte_at(s, 1)),
@@ -53,12 +53,12 @@ fn answer_is(code: u8, count: usize, state: State, buffer: &[u8], s: &[u8]) -> b
 }
 
 // A cold start.
-pub fn start_holds(s: &[u8]) -> bool {
+pub(crate) fn start_holds(s: &[u8]) -> bool {
     started_is(cold_start(limits_in(s)), rest(s, 2))
 }
 
 // A reading of an image.
-pub fn load_holds(s: &[u8]) -> bool {
+pub(crate) fn load_holds(s: &[u8]) -> bool {
     started_is(read_image(announced(s)), beyond(s))
 }
 
@@ -69,7 +69,7 @@ fn store_is(state: State, buffer: &mut [u8], s: &[u8]) -> bool {
 }
 
 // A write of an image.
-pub fn store_holds(s: &[u8]) -> bool {
+pub(crate) fn store_holds(s: &[u8]) -> bool {
     let room = rest(s, STATE_SIZE);
     let length = number_at(room, 0);
     let mut buffer = filled(byte_at(room, 1));
@@ -83,7 +83,7 @@ fn step_is(state: State, record: &[u8], buffer: &mut [u8], s: &[u8]) -> bool {
 }
 
 // A step.
-pub fn step_holds(s: &[u8]) -> bool {
+pub(crate) fn step_holds(s: &[u8]) -> bool {
     let bytes = rest(s, STATE_SIZE);
     let room = beyond(bytes);
     let length = number_at(room, 0);

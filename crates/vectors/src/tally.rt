@@ -63,7 +63,7 @@ fn write_line(row: usize, judged: u64, failed: u64) {
 
 impl Tally {
     // No vector.
-    pub fn none() -> Tally {
+    pub(crate) fn none() -> Tally {
         Tally {
             judged: [0; 10],
             failed: [0; 10],
@@ -92,7 +92,7 @@ impl Tally {
     }
 
     // One vector more; a failure is named at once, unless a hundred are.
-    pub fn add(self, group: u8, holds: bool) -> Tally {
+    pub(crate) fn add(self, group: u8, holds: bool) -> Tally {
         if holds {
             self.pass(group)
         } else {
@@ -107,7 +107,7 @@ impl Tally {
     }
 
     // Writes a line for each group, one for the vectors of no group where there are any, and the sum.
-    pub fn write(self) {
+    pub(crate) fn write(self) {
         let mut row = 1;
         while row < ROWS {
             write_line(row, self.judged[row], self.failed[row]);

@@ -41,7 +41,7 @@ const HISTORY: u8 = 7;
 const MIXES: u8 = 8;
 
 // The group of a vector; 0 where no group has that number.
-pub fn group_of(body: &[u8]) -> u8 {
+pub(crate) fn group_of(body: &[u8]) -> u8 {
     let group = byte_at(body, 0);
     if group <= GROUPS { group } else { 0 }
 }
@@ -61,7 +61,7 @@ fn operation_holds(operation: u8, s: &[u8]) -> bool {
 }
 
 // Whether a vector holds; one of no group, of an unknown operation, cut off or with bytes left over does not.
-pub fn holds(body: &[u8]) -> bool {
+pub(crate) fn holds(body: &[u8]) -> bool {
     if group_of(body) == 0 {
         return false;
     }
