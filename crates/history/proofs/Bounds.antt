@@ -4,7 +4,7 @@
 use mathlib.Core.Path.{_≡_, refl}
 use mathlib.Core.Bool.{true}
 use mathlib.Core.List.{List, [], _∷_}
-use Prim.Native.Nat.{ℕ, _+_, _-_, _*_, _≤_}
+use Prim.Native.Nat.{ℕ, _+_, _*_, _≤_}
 use native.Mathlib.Omega.{arith}
 use lib.ListN.{length}
 use Rattle.record.specs.Partners.{samePartner}
@@ -12,82 +12,47 @@ use Rattle.record.specs.Records.{reading}
 use Rattle.record.specs.Refusals.{accepted}
 use Rattle.record.specs.declared.partner.Partner.{Partner}
 use Rattle.place.specs.Places.{tryLimit}
-use Rattle.place.specs.Table.{table, closing, play}
 use Rattle.place.specs.declared.phase.Phase.{Phase}
-use Rattle.place.specs.declared.phase.Phase.the-variants.{Connecting, Contacting, Open, Lost, Ending}
 use Rattle.place.specs.declared.turn.Limits.{Limits}
-use Rattle.place.proofs.Turns.{judged-case}
 use Rattle.unit.specs.States.{coldStart}
 use Rattle.unit.specs.OnRecords.{actionRoom, onRecord}
 use Rattle.unit.specs.declared.state.State.{State}
 use Rattle.unit.specs.declared.answer.Action.{Action}
 use Rattle.history.specs.Histories.{after, orders, calls, losses, actions, count, names, perOrder, perCall, perLoss, actionsOf, ordersOf, callsOf, lossesOf}
-use Rattle.history.proofs.Rows.{_▹_, Beside}
 use Rattle.history.proofs.Balances.{atMost}
-use Rattle.history.proofs.Scales.{Scale, Turned, Balanced, turns-by-row, again-turned}
+use Rattle.history.proofs.Scales.{Scale, Balanced}
 use Rattle.history.proofs.Accounts.{total}
-use Rattle.history.proofs.Counted.{rated, summed-same, whose-any, whose-one, and-true, rated-account}
+use Rattle.history.proofs.Counted.{summed-same, whose-any, whose-one, and-true, rated-account}
 use Rattle.history.proofs.Along.{cold-light}
+use Rattle.history.proofs.Falling.{Numbers, falling, fallings, falling-balanced}
 
--- n being the limit of tries
+-- what a place is worth at its last try, n being the limit of tries; an order, a call and a loss bring their parts
+abbrev worthNumbers : ℕ → Numbers
+worthNumbers n =
+    record {
+      connecting = 2 * n + 2;
+      contacting = n + 2;
+      opened = n + 1;
+      lost = n + 1;
+      ending = 1;
+      order = perOrder n;
+      call = perCall n;
+      up = 0;
+      loss = perLoss n;
+      version = 0;
+    }
+
+-- and one more for each try before that
 abbrev pub worth : ℕ → Phase → ℕ
-worth n (Connecting t) = (2 * n + 2) + (n - t)
-worth n (Contacting t) = (n + 2) + (n - t)
-worth n Open = n + 1
-worth n (Lost t) = (n + 1) + (n - t)
-worth n (Ending t) = 1 + (n - t)
+worth n = falling n (worthNumbers n)
 
 -- every action counts
 abbrev pub worths : ℕ → Scale
-worths n = rated (worth n) (λ number. true) (perOrder n) (perCall n) (perLoss n)
+worths n = fallings n (worthNumbers n)
 
-module _ (n : ℕ) (some-try : 1 ≤ n) where
-  -- no closing costs more than its place is worth
-  closings : (ph : Phase) → Turned atMost (worths n) ph 0 (closing ph)
-  closings (Connecting t) = omega arith
-  closings (Contacting t) = omega arith
-  closings Open = omega arith
-  closings (Lost t) = omega arith
-  closings (Ending t) = omega arith
-
-  -- nor any cell of the table, and a loss brings its part
-  rows : (l : Limits) (ph : Phase) (v : ℕ) → Beside (λ c b. Turned atMost (worths n) ph b (play n l ph v c)) (table ph) (worths n .columns)
-  rows l (Connecting t) v =
-      omega arith
-      ▹ omega arith
-      ▹ omega arith
-      ▹ again-turned atMost n (worths n) 21 (Connecting t) 0 (λ more. omega arith) (λ last. omega arith)
-      ▹ omega arith
-  rows l (Contacting t) v =
-      omega arith
-      ▹ omega arith
-      ▹ omega arith
-      ▹ again-turned atMost n (worths n) 155 (Contacting t) 0 (λ more. omega arith) (λ last. omega arith)
-      ▹ judged-case (Turned atMost (worths n) (Contacting t) 0) l v (omega arith) (omega arith)
-      ▹ omega arith
-  rows l Open v = omega arith
-  rows l (Lost t) v =
-      omega arith
-      ▹ omega arith
-      ▹ omega arith
-      ▹ again-turned atMost n (worths n) 21 (Lost t) 0 (λ more. omega arith) (λ last. omega arith)
-      ▹ omega arith
-  rows l (Ending t) v =
-      omega arith
-      ▹ omega arith
-      ▹ omega arith
-      ▹ again-turned atMost n (worths n) 156 (Ending t) 0 (λ more. omega arith) (λ last. omega arith)
-      ▹ omega arith
-
-  -- nor does an order or a call
-  pub worths-balanced : Balanced atMost n (worths n)
-  worths-balanced =
-      record {
-        ordered = omega arith;
-        called = omega arith;
-        closings = closings;
-        turns = turns-by-row atMost n (worths n) rows;
-      }
+-- no turn costs more than its place is worth and its event brings
+pub worths-balanced : (n : ℕ) → 1 ≤ n → Balanced atMost n (worths n)
+worths-balanced n some-try = falling-balanced n (worthNumbers n) some-try (omega arith)
 
 -- each action counts one
 count-all : (acts : List Action) → count (λ a. true) acts ≡ length acts

@@ -12,82 +12,51 @@ use Rattle.record.specs.Partners.{samePartner, partnerOk}
 use Rattle.record.specs.declared.partner.Partner.{Partner}
 use Rattle.record.proofs.Tests.{and-left, and-right, cond-case, true-false}
 use Rattle.place.specs.Places.{seat, holds, holdsIn, directionOk}
-use Rattle.place.specs.Table.{table, closing, play}
 use Rattle.place.specs.declared.phase.Phase.{Phase}
 use Rattle.place.specs.declared.phase.Phase.the-variants.{Connecting, Contacting, Open, Lost, Ending}
 use Rattle.place.specs.declared.seat.Direction.{Direction}
 use Rattle.place.specs.declared.seat.Holding.{Holding}
 use Rattle.place.specs.declared.seat.Holding.the-variants.{Free, Held}
 use Rattle.place.specs.declared.seat.Place.{Place}
-use Rattle.place.specs.declared.turn.Limits.{Limits}
-use Rattle.place.proofs.Turns.{judged-case}
 use Rattle.unit.proofs.Weights.{weigh, once, here}
 use Rattle.unit.proofs.Facts.{bad, PlacesFacts}
 use Rattle.history.specs.Histories.{one, waitingPhase, waitsIn, waits}
-use Rattle.history.proofs.Rows.{_▹_, Beside}
 use Rattle.history.proofs.Balances.{atMost}
-use Rattle.history.proofs.Scales.{Scale, Turned, Balanced, weightIn, turns-by-row, again-turned}
+use Rattle.history.proofs.Scales.{Scale, Balanced, weightIn}
 use Rattle.history.proofs.Accounts.{total}
+use Rattle.history.proofs.Falling.{Numbers, falling, fallings, falling-balanced}
 
--- n being the limit of tries
+-- what is left to a place at its last try, n being the limit of tries; what opens a session, or takes a partner in, brings more
+abbrev leftNumbers : ℕ → Numbers
+leftNumbers n =
+    record {
+      connecting = 1;
+      contacting = 1;
+      opened = n + 1;
+      lost = 1;
+      ending = 1;
+      order = n + 1;
+      call = n + 2;
+      up = n;
+      loss = 0;
+      version = n + 1;
+    }
+
+-- and one more for each try before that
 abbrev pub left : ℕ → Phase → ℕ
-left n (Connecting t) = 1 + (n - t)
-left n (Contacting t) = 1 + (n - t)
-left n Open = n + 1
-left n (Lost t) = 1 + (n - t)
-left n (Ending t) = 1 + (n - t)
+left n = falling n (leftNumbers n)
 
--- every action counts; what opens a session, or takes a partner in, brings more
+-- every action counts
 abbrev pub lefts : ℕ → Scale
-lefts n =
-    record { weight = left n; counts = λ number. true; order = n + 1; call = n + 2; columns = 0 ∷ n ∷ 0 ∷ 0 ∷ (n + 1) ∷ 0 ∷ [] }
+lefts n = fallings n (leftNumbers n)
 
 -- what is left to one partner
 abbrev pub leftTo : ℕ → Partner → List Place → ℕ
 leftTo n p ps = total (lefts n) (samePartner p) ps
 
-module _ (n : ℕ) (some-try : 1 ≤ n) where
-  -- no closing costs more than what is left
-  closings : (ph : Phase) → Turned atMost (lefts n) ph 0 (closing ph)
-  closings (Connecting t) = omega arith
-  closings (Contacting t) = omega arith
-  closings Open = omega arith
-  closings (Lost t) = omega arith
-  closings (Ending t) = omega arith
-
-  -- nor any cell of the table, and what opens a session brings more
-  rows : (l : Limits) (ph : Phase) (v : ℕ) → Beside (λ c b. Turned atMost (lefts n) ph b (play n l ph v c)) (table ph) (lefts n .columns)
-  rows l (Connecting t) v =
-      omega arith
-      ▹ omega arith
-      ▹ omega arith
-      ▹ again-turned atMost n (lefts n) 21 (Connecting t) 0 (λ more. omega arith) (λ last. omega arith)
-      ▹ omega arith
-  rows l (Contacting t) v =
-      omega arith
-      ▹ omega arith
-      ▹ omega arith
-      ▹ again-turned atMost n (lefts n) 155 (Contacting t) 0 (λ more. omega arith) (λ last. omega arith)
-      ▹ judged-case (Turned atMost (lefts n) (Contacting t) (n + 1)) l v (omega arith) (omega arith)
-      ▹ omega arith
-  rows l Open v = omega arith
-  rows l (Lost t) v =
-      omega arith
-      ▹ omega arith
-      ▹ omega arith
-      ▹ again-turned atMost n (lefts n) 21 (Lost t) 0 (λ more. omega arith) (λ last. omega arith)
-      ▹ omega arith
-  rows l (Ending t) v =
-      omega arith
-      ▹ omega arith
-      ▹ omega arith
-      ▹ again-turned atMost n (lefts n) 156 (Ending t) 0 (λ more. omega arith) (λ last. omega arith)
-      ▹ omega arith
-
-  -- so do an order and a call
-  pub lefts-balanced : Balanced atMost n (lefts n)
-  lefts-balanced =
-      record { ordered = omega arith; called = omega arith; closings = closings; turns = turns-by-row atMost n (lefts n) rows }
+-- no turn costs more than what is left and its event brings
+pub lefts-balanced : (n : ℕ) → 1 ≤ n → Balanced atMost n (lefts n)
+lefts-balanced n some-try = falling-balanced n (leftNumbers n) some-try (omega arith)
 
 module _ (n : ℕ) (p : Partner) where
   -- something is left in every phase

@@ -5,6 +5,7 @@ pub mod Accounts
 pub mod Bytes
 pub mod Counted
 pub mod Along
+pub mod Falling
 pub mod Bounds
 pub mod TakenIn
 pub mod Silence

@@ -16,7 +16,7 @@ use Rattle.place.specs.declared.seat.Holding.{Holding}
 use Rattle.place.specs.declared.seat.Holding.the-variants.{Free, Held}
 use Rattle.place.specs.declared.seat.Place.{Place}
 use Rattle.place.specs.declared.turn.Limits.{Limits}
-use Rattle.place.proofs.Turns.{judged-case}
+use Rattle.place.proofs.ByRow.{judged-case}
 use Rattle.unit.specs.States.{coldStart}
 use Rattle.unit.specs.Steps.{act}
 use Rattle.unit.proofs.Weights.{weigh}

@@ -3,7 +3,7 @@
 -- Defines: after, summed; isOrder, isCall, isLoss, orders, calls, losses; actions, count, releases, placesHeld;
 -- names, timeoutFor, silent, timeouts, holdsPlace, waits, releasesOf; heldTries;
 -- perOrder, perCall, perLoss, timeoutsToRelease; actionsOf, ordersOf, callsOf, lossesOf.
-use Prim.Native.Nat.{ℕ, suc, _+_, _*_}
+use Prim.Native.Nat.{ℕ, _+_, _*_}
 use mathlib.Core.Bool.{Bool, true, false, cond, _&&_, _||_, not}
 use mathlib.Core.List.{List, [], _∷_}
 use lib.Dec.{eqb}

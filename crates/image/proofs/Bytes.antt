@@ -2,20 +2,20 @@
 -- Proves: placeIn-bytes, placesIn-bytes, stateIn-body; placesBytes-length, imageOf-length; same-bytes, bytes-same;
 -- place-bytes-at, zeros-free, free-zeros.
 use mathlib.Core.Path.{_≡_, refl, ap, ap₂, sym, _∙_}
-use mathlib.Core.Bool.{Bool, true, false, cond, _&&_}
+use mathlib.Core.Bool.{Bool, true, false, cond}
 use mathlib.Core.List.{List, [], _∷_, _++_}
-use Prim.Native.Nat.{ℕ, zero, suc, _+_, _*_, _≤_, _<_}
+use Prim.Native.Nat.{ℕ, zero, suc, _+_, _*_, _<_}
 use native.Mathlib.Nat.{le-of-suc-le-suc}
 use native.Mathlib.Omega.{arith}
 use lib.Dec.{eqb}
 use lib.Seq.{drop-drop}
-use lib.ListN.{length, getD, take, drop, replicate, length-append}
+use lib.ListN.{length, getD, take, drop, replicate}
 use borrow.Author.Tests.{eqb-true, eq-eqb}
 use Rattle.record.specs.Blocks.{blocks}
 use Rattle.record.specs.Records.{flag}
 use Rattle.record.proofs.Blocks.{blocks-length}
 use Rattle.record.proofs.Tests.{and-left, and-right, and-both, true-false}
-use Rattle.place.specs.Places.{phaseNumber, tries, directionNumber, vacant, seat, isFree, isFreeHolding}
+use Rattle.place.specs.Places.{phaseNumber, tries, directionNumber, vacant, seat, isFreeHolding}
 use Rattle.place.specs.declared.phase.Phase.{Phase}
 use Rattle.place.specs.declared.phase.Phase.the-variants.{Connecting, Contacting, Open, Lost, Ending}
 use Rattle.place.specs.declared.seat.Direction.{Direction}
@@ -25,7 +25,7 @@ use Rattle.place.specs.declared.seat.Holding.the-variants.{Free, Held}
 use Rattle.place.specs.declared.seat.Place.{Place}
 use Rattle.unit.specs.States.{placeCount}
 use Rattle.unit.specs.declared.state.State.{State}
-use Rattle.image.specs.Images.{imageSize, placeSize, headSize, holdingBytes, placeBytes, placesBytes, markByte, headBytes, bodyBytes, imageOf, phased, directed, placeIn, placesIn, stateIn, sameBytes}
+use Rattle.image.specs.Images.{imageSize, placeSize, holdingBytes, placeBytes, placesBytes, markByte, bodyBytes, imageOf, phased, directed, placeIn, placesIn, stateIn, sameBytes}
 
 -- each value's byte stands for it again
 phased-number : (ph : Phase) → phased (phaseNumber ph) (tries ph) ≡ ph

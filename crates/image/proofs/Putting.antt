@@ -1,19 +1,18 @@
 -- Writing an image: the numbers that fit a byte, and the buffer once all is written.
 -- Proves: sound-small, image-end; wrote-no-room, wrote-unsound, wrote-done.
-use mathlib.Core.Path.{_≡_, refl, sym, ap, ap₂, _∙_}
+use mathlib.Core.Path.{_≡_, sym, ap, ap₂, _∙_}
 use mathlib.Core.Bool.{true, false}
-use mathlib.Core.List.{List, [], _∷_, _++_, append-assoc}
+use mathlib.Core.List.{List, _∷_, _++_, append-assoc}
 use Prim.Native.Nat.{ℕ, _+_, _≤_, _<_}
 use native.Mathlib.Omega.{arith}
 use lib.Dec.{leb}
-use lib.ListN.{length, take, drop}
-use lib.Seq.{sets, sets-eq, take-all, take-append-seam, drop-append-seam, drop-drop}
+use lib.ListN.{length, drop}
+use lib.Seq.{sets, sets-eq, take-all, drop-drop}
 use borrow.Author.Tests.{leb-true, le-leb, lt-leb}
 use Rattle.record.specs.Records.{highestLevel, missionUnderWay}
 use Rattle.record.specs.Refusals.{accepted, noRoom, notSound}
 use Rattle.record.proofs.Tests.{and-left, and-right}
 use Rattle.record.proofs.Blocks.{FilledTo}
-use Rattle.place.specs.declared.seat.Place.{Place}
 use Rattle.unit.specs.States.{placeCount, highestX, sound}
 use Rattle.unit.specs.declared.state.State.{State}
 use Rattle.unit.proofs.Facts.{sound-facts}

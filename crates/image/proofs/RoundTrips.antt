@@ -1,10 +1,10 @@
 -- Reading and writing images, on the definitions.
 -- Proves: read-written, written-read, read-free.
-use mathlib.Core.Path.{_≡_, refl, ap, sym, _∙_, subst}
+use mathlib.Core.Path.{_≡_, ap, sym, _∙_}
 use mathlib.Core.Logic.{_↔_}
-use mathlib.Core.Bool.{Bool, true, false, cond, _&&_}
-use mathlib.Core.List.{List, [], _∷_, _++_}
-use Prim.Native.Nat.{ℕ, zero, suc, _+_, _*_, _≤_, _<_}
+use mathlib.Core.Bool.{true, cond, _&&_}
+use mathlib.Core.List.{List, [], _∷_}
+use Prim.Native.Nat.{ℕ, _+_, _*_, _<_}
 use native.Mathlib.Omega.{arith}
 use lib.Dec.{eqb}
 use lib.Seq.{drop-drop}
@@ -18,7 +18,7 @@ use Rattle.unit.specs.States.{placeCount, sound}
 use Rattle.unit.specs.declared.state.State.{State}
 use Rattle.unit.specs.declared.answer.Started.{Started}
 use Rattle.unit.proofs.Facts.{sound-facts}
-use Rattle.image.specs.Images.{imageKind, imageSize, headSize, placeSize, headBytes, placeBytes, placesBytes, bodyBytes, imageOf, stateIn, sameBytes, readRefused, readBody, readImage}
+use Rattle.image.specs.Images.{imageKind, imageSize, headSize, placeSize, placeBytes, bodyBytes, imageOf, stateIn, sameBytes, readRefused, readBody, readImage}
 use Rattle.image.proofs.Bytes.{stateIn-body, imageOf-length, same-bytes, bytes-same, place-bytes-at, zeros-free, free-zeros}
 
 -- a sound state is read from its own body

@@ -13,13 +13,10 @@ use lib.Seq.{getD-drop, drop-cons, take-all}
 use borrow.Author.Tests.{eq-eqb, ne-eqb}
 use Rattle.record.specs.Records.{byte}
 use Rattle.record.specs.Refusals.{accepted, wrongLength, unknownKind, notSound}
-use Rattle.record.proofs.Tests.{true-false}
 use Rattle.place.specs.Places.{vacant, seat}
 use Rattle.place.specs.declared.phase.Phase.{Phase}
 use Rattle.place.specs.declared.seat.Direction.{Direction}
-use Rattle.place.specs.declared.seat.Place.{Place}
 use Rattle.unit.specs.States.{placeCount, sound}
-use Rattle.unit.specs.declared.answer.Started.{Started}
 use Rattle.unit.specs.declared.state.State.{State}
 use Rattle.image.specs.Images.{imageKind, imageSize, bodyBytes, imageOf, phased, directed, heldIn, placeIn, stateIn, sameBytes, readRefused, readBody, readImage}
 use Rattle.image.proofs.Bytes.{bytes-same, imageOf-length}

@@ -4,7 +4,7 @@ use Prim.Native.Nat.{ℕ, zero, suc}
 use mathlib.Core.Bool.{Bool, true, false, cond, _&&_}
 use mathlib.Core.List.{List, [], _∷_, _++_}
 use lib.Dec.{eqb, leb}
-use lib.ListN.{length, take, drop, replicate}
+use lib.ListN.{length, drop, replicate}
 use Rattle.record.specs.Blocks.{blocks}
 use Rattle.record.specs.Records.{byte, flag}
 use Rattle.record.specs.Refusals.{accepted, wrongLength, unknownKind, noRoom, notSound}

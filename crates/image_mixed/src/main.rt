@@ -12,25 +12,19 @@ use unit::state::Marks;
 use unit::state::State;
 use unit::state::Train;
 
+fn partner(kind: u8, high: u8, middle: u8, low: u8) -> Partner {
+    Partner {
+        kind,
+        high,
+        middle,
+        low,
+    }
+}
+
 fn mixed() -> State {
-    let lost = Partner {
-        kind: 0,
-        high: 1,
-        middle: 2,
-        low: 3,
-    };
-    let infill = Partner {
-        kind: 1,
-        high: 0,
-        middle: 0,
-        low: 2,
-    };
-    let open = Partner {
-        kind: 0,
-        high: 0,
-        middle: 0,
-        low: 5,
-    };
+    let lost = partner(0, 1, 2, 3);
+    let infill = partner(1, 0, 0, 2);
+    let open = partner(0, 0, 0, 5);
     State {
         limits: Limits {
             lowest: 1,

@@ -10,7 +10,7 @@ use borrow.Author.Tests.{lt-ltb, le-ltb}
 use Rattle.record.specs.declared.partner.Partner.{Partner}
 use Rattle.record.specs.declared.event.PartnerEvent.{PartnerEvent}
 use Rattle.place.specs.Places.{tries}
-use Rattle.place.specs.Table.{Cell, refuse, legend, cellOf, cell, judged, supported, withTries, oneMore, again, play, turn, versionOf, established, incompatible, terminate, firstTry, closing, due, shutHolding}
+use Rattle.place.specs.Table.{Cell, refuse, legend, cellOf, cell, judged, withTries, oneMore, again, play, turn, versionOf, established, incompatible, terminate, firstTry, closing, due, shutHolding}
 use Rattle.place.specs.declared.phase.Phase.{Phase}
 use Rattle.place.specs.declared.phase.Phase.the-variants.{Open, Ending}
 use Rattle.place.specs.declared.seat.Direction.{Direction}

@@ -1,18 +1,18 @@
 -- What every turn of a place keeps to, whatever the phase and the event.
--- Proves: by-row, judged-case; turn-sound, turn-fresh, turn-few, judged-x, sessions-rbc; event-sound, shut-sound, after-holds.
-use mathlib.Core.Path.{_≡_, refl, ap}
-use mathlib.Core.Bool.{Bool, true, false, cond, _&&_}
-use Prim.Native.Nat.{ℕ, _+_, _≤_, _<_, _/_}
+-- Proves: turn-sound, turn-few, sessions-rbc; event-sound, shut-sound, after-holds.
+use mathlib.Core.Path.{_≡_, refl}
+use mathlib.Core.Bool.{true, false, _&&_}
+use Prim.Native.Nat.{ℕ, _+_, _≤_, _<_}
 use native.Mathlib.Omega.{arith}
-use lib.Dec.{eqb, leb, ltb}
+use lib.Dec.{leb, ltb}
 use lib.ListN.{length}
-use borrow.Author.Tests.{ltb-true, le-leb, eq-eqb}
+use borrow.Author.Tests.{ltb-true, le-leb}
 use Rattle.record.specs.Partners.{isRbc, partnerOk}
 use Rattle.record.specs.declared.partner.Partner.{Partner}
 use Rattle.record.specs.declared.event.PartnerEvent.{PartnerEvent}
-use Rattle.record.proofs.Tests.{and-left, and-right, and-both, true-false, cond-case, cond-holds, All, getD-all}
-use Rattle.place.specs.Places.{phaseNumber, tries, phaseOk, incomingPhase, directionOk, holdingOk, placeOk, seat, holds, holdsIn}
-use Rattle.place.specs.Table.{refuse, table, column, closing, firstTry, supported, judged, oneMore, again, play, versionOf, turn, numbers, placeAfter, holdingTurn, due, inSession, shutHolding, established, incompatible, terminate}
+use Rattle.record.proofs.Tests.{and-left, and-right, and-both, true-false, cond-case, cond-holds, All}
+use Rattle.place.specs.Places.{tries, phaseOk, incomingPhase, directionOk, holdingOk, placeOk, seat, holds, holdsIn}
+use Rattle.place.specs.Table.{table, closing, judged, oneMore, again, play, turn, numbers, placeAfter, holdingTurn, due, inSession, shutHolding}
 use Rattle.place.specs.declared.phase.Phase.{Phase}
 use Rattle.place.specs.declared.phase.Phase.the-variants.{Connecting, Contacting, Open, Lost, Ending}
 use Rattle.place.specs.declared.seat.Direction.{Direction}
@@ -25,24 +25,7 @@ use Rattle.place.specs.declared.turn.Turn.{Turn}
 use Rattle.place.specs.declared.turn.Turn.the-variants.{Refused, Released, Becomes, Sends, SendsBoth}
 use Rattle.place.specs.declared.turn.Due.{Due}
 use Rattle.place.specs.declared.turn.Due.the-variants.{Sessions}
-
--- what is asked of the phase that a turn leads to, if it leads to one
-abbrev pub onNext : (Phase → Type 0) → Turn → Type 0
-onNext P Refused = Unit
-onNext P Released = Unit
-onNext P (Becomes q) = P q
-onNext P (Sends number q) = P q
-onNext P (SendsBoth first second q) = P q
-
--- a law of every turn is one of every cell of every row
-pub by-row : (P : Phase → Turn → Type 0) (n : ℕ) (l : Limits) → ((ph : Phase) (v : ℕ) → All (λ c. P ph (play n l ph v c)) (table ph)) → ((ph : Phase) → P ph Refused) → (ph : Phase) (e : PartnerEvent) → P ph (turn n l ph e)
-unfolding turn
-by-row P n l row outside ph e =
-    getD-all (λ c. P ph (play n l ph (versionOf e) c)) (table ph) refuse (row ph (versionOf e)) (outside ph) (column e)
-
--- a judged version opens the session or ends it
-pub judged-case : (P : Turn → Type 0) (l : Limits) (v : ℕ) → P (Sends established Open) → P (SendsBoth incompatible terminate (Ending firstTry)) → P (judged l v)
-judged-case P l v = cond-holds P (supported l v) (Sends established Open) (SendsBoth incompatible terminate (Ending firstTry))
+use Rattle.place.proofs.ByRow.{onNext, by-row, judged-case}
 
 -- the next phase is sound, and fit for an incoming place where the phase was
 abbrev pub NextSound : ℕ → Phase → Turn → Type 0
@@ -102,51 +85,6 @@ module _ (n : ℕ) (some-try : 1 ≤ n) where
   pub turn-sound : (l : Limits) (ph : Phase) (e : PartnerEvent) → NextSound n ph (turn n l ph e)
   turn-sound l = by-row (NextSound n) n l (row-sound l) (λ ph. tt)
 
--- the tries at which a phase is entered
-abbrev pub firstTries : Phase → ℕ
-firstTries (Connecting t) = 1
-firstTries (Contacting t) = 1
-firstTries Open = 0
-firstTries (Lost t) = 1
-firstTries (Ending t) = 1
-
--- one more try in the same phase, or the first of another
-abbrev pub fresh : Phase → Phase → Bool
-fresh ph q = cond (eqb (phaseNumber ph) (phaseNumber q)) (eqb (tries q) (tries ph + 1)) (eqb (tries q) (firstTries q))
-
-abbrev NextFresh : Phase → Turn → Type 0
-NextFresh ph = onNext (λ q. fresh ph q ≡ true)
-
-again-fresh : (n number : ℕ) (ph : Phase) → fresh ph (oneMore ph) ≡ true → NextFresh ph (again n number ph)
-again-fresh n number ph h = cond-holds (NextFresh ph) (ltb (tries ph) n) (Sends number (oneMore ph)) Released h tt
-
-row-fresh : (n : ℕ) (l : Limits) (ph : Phase) (v : ℕ) → All (λ c. NextFresh ph (play n l ph v c)) (table ph)
-row-fresh n l (Connecting t) v =
-    (tt, (refl, (tt, (again-fresh n 21 (Connecting t) (eq-eqb (t + 1) (t + 1) refl), (tt, (tt, tt))))))
-row-fresh n l (Contacting t) v = (
-  tt,
-  (
-    tt,
-    (
-      tt,
-      (
-        again-fresh n 155 (Contacting t) (eq-eqb (t + 1) (t + 1) refl),
-        (judged-case (NextFresh (Contacting t)) l v refl refl, (tt, tt)),
-      ),
-    ),
-  ),
-)
-row-fresh n l Open v = (refl, (tt, (refl, (tt, (tt, (tt, tt))))))
-row-fresh n l (Lost t) v =
-    (tt, (refl, (tt, (again-fresh n 21 (Lost t) (eq-eqb (t + 1) (t + 1) refl), (tt, (tt, tt))))))
-row-fresh n l (Ending t) v =
-    (tt, (tt, (tt, (again-fresh n 156 (Ending t) (eq-eqb (t + 1) (t + 1) refl), (tt, (tt, tt))))))
-
--- no turn carries the old phase's tries into another phase
--- promise
-pub turn-fresh : (n : ℕ) (l : Limits) (ph : Phase) (e : PartnerEvent) → onNext (λ q. fresh ph q ≡ true) (turn n l ph e)
-turn-fresh n l = by-row NextFresh n l (row-fresh n l) (λ ph. tt)
-
 -- a turn has at most two actions
 pub turn-few : (t : Turn) → length (numbers t) ≤ 2
 turn-few Refused = omega arith
@@ -154,12 +92,6 @@ turn-few Released = omega arith
 turn-few (Becomes q) = omega arith
 turn-few (Sends number q) = omega arith
 turn-few (SendsBoth first second q) = omega arith
-
--- versions with the same X are judged alike
--- promise
-pub judged-x : (l : Limits) (v w : ℕ) → v / 16 ≡ w / 16 → judged l v ≡ judged l w
-judged-x l v w same =
-    ap (λ x. cond (leb (l .lowest) x && leb x (l .highest)) (Sends established Open) (SendsBoth incompatible terminate (Ending 1))) same
 
 -- an RBC's order ends sessions with RBCs only
 -- promise

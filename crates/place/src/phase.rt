@@ -88,6 +88,72 @@ fn judge(version: u8, limits: Limits) -> Turn
     }
 }
 
+// The rows of the phase table, which the tries do not change.
+fn connecting_row(event: PartnerEvent) -> u8
+    ensures { λ r. ⌜ cellOf r ≡ cell (Phase.Connecting 0) event ⌝ }
+{
+    match event {
+        PartnerEvent::Drop => CLOSE,
+        PartnerEvent::Up => CONTACT,
+        PartnerEvent::Loss => REFUSE,
+        PartnerEvent::Timeout => REQUEST_AGAIN,
+        PartnerEvent::Version(_) => REFUSE,
+        PartnerEvent::Ended => REFUSE,
+    }
+}
+
+fn contacting_row(event: PartnerEvent) -> u8
+    ensures { λ r. ⌜ cellOf r ≡ cell (Phase.Contacting 0) event ⌝ }
+{
+    match event {
+        PartnerEvent::Drop => CLOSE,
+        PartnerEvent::Up => REFUSE,
+        PartnerEvent::Loss => FREE,
+        PartnerEvent::Timeout => INITIATE_AGAIN,
+        PartnerEvent::Version(_) => JUDGE,
+        PartnerEvent::Ended => REFUSE,
+    }
+}
+
+fn open_row(event: PartnerEvent) -> u8
+    ensures { λ r. ⌜ cellOf r ≡ cell Phase.Open event ⌝ }
+{
+    match event {
+        PartnerEvent::Drop => CLOSE,
+        PartnerEvent::Up => REFUSE,
+        PartnerEvent::Loss => LOSE,
+        PartnerEvent::Timeout => REFUSE,
+        PartnerEvent::Version(_) => REFUSE,
+        PartnerEvent::Ended => REFUSE,
+    }
+}
+
+fn lost_row(event: PartnerEvent) -> u8
+    ensures { λ r. ⌜ cellOf r ≡ cell (Phase.Lost 0) event ⌝ }
+{
+    match event {
+        PartnerEvent::Drop => CLOSE,
+        PartnerEvent::Up => REOPEN,
+        PartnerEvent::Loss => REFUSE,
+        PartnerEvent::Timeout => REQUEST_AGAIN,
+        PartnerEvent::Version(_) => REFUSE,
+        PartnerEvent::Ended => REFUSE,
+    }
+}
+
+fn ending_row(event: PartnerEvent) -> u8
+    ensures { λ r. ⌜ cellOf r ≡ cell (Phase.Ending 0) event ⌝ }
+{
+    match event {
+        PartnerEvent::Drop => REFUSE,
+        PartnerEvent::Up => REFUSE,
+        PartnerEvent::Loss => FREE,
+        PartnerEvent::Timeout => TERMINATE_AGAIN,
+        PartnerEvent::Version(_) => REFUSE,
+        PartnerEvent::Ended => FREE,
+    }
+}
+
 impl Phase {
     // Its number, 1 to 5.
     pub fn number(self) -> u8
@@ -216,46 +282,11 @@ impl Phase {
         ensures { λ r. ⌜ cellOf r ≡ cell self event ⌝ }
     {
         match self {
-            Phase::Connecting(_) => match event {
-                PartnerEvent::Drop => CLOSE,
-                PartnerEvent::Up => CONTACT,
-                PartnerEvent::Loss => REFUSE,
-                PartnerEvent::Timeout => REQUEST_AGAIN,
-                PartnerEvent::Version(_) => REFUSE,
-                PartnerEvent::Ended => REFUSE,
-            },
-            Phase::Contacting(_) => match event {
-                PartnerEvent::Drop => CLOSE,
-                PartnerEvent::Up => REFUSE,
-                PartnerEvent::Loss => FREE,
-                PartnerEvent::Timeout => INITIATE_AGAIN,
-                PartnerEvent::Version(_) => JUDGE,
-                PartnerEvent::Ended => REFUSE,
-            },
-            Phase::Open => match event {
-                PartnerEvent::Drop => CLOSE,
-                PartnerEvent::Up => REFUSE,
-                PartnerEvent::Loss => LOSE,
-                PartnerEvent::Timeout => REFUSE,
-                PartnerEvent::Version(_) => REFUSE,
-                PartnerEvent::Ended => REFUSE,
-            },
-            Phase::Lost(_) => match event {
-                PartnerEvent::Drop => CLOSE,
-                PartnerEvent::Up => REOPEN,
-                PartnerEvent::Loss => REFUSE,
-                PartnerEvent::Timeout => REQUEST_AGAIN,
-                PartnerEvent::Version(_) => REFUSE,
-                PartnerEvent::Ended => REFUSE,
-            },
-            Phase::Ending(_) => match event {
-                PartnerEvent::Drop => REFUSE,
-                PartnerEvent::Up => REFUSE,
-                PartnerEvent::Loss => FREE,
-                PartnerEvent::Timeout => TERMINATE_AGAIN,
-                PartnerEvent::Version(_) => REFUSE,
-                PartnerEvent::Ended => FREE,
-            },
+            Phase::Connecting(_) => connecting_row(event),
+            Phase::Contacting(_) => contacting_row(event),
+            Phase::Open => open_row(event),
+            Phase::Lost(_) => lost_row(event),
+            Phase::Ending(_) => ending_row(event),
         }
     }
 

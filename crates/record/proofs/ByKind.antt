@@ -1,6 +1,6 @@
 -- The tables of causes and kinds outside their entries, and reading by the first byte.
--- Proves: cause-first, up, body-none, fields-at; read-empty, read-unknown, read-length, read-fields.
-use mathlib.Core.Path.{_≡_, refl, sym, ap, _∙_}
+-- Proves: cause-first, up, body-none, fields-at, long-at; read-empty, read-unknown, read-length, read-fields.
+use mathlib.Core.Path.{_≡_, refl, sym, ap, subst, _∙_}
 use mathlib.Core.Bool.{cond}
 use mathlib.Core.List.{List, [], _∷_}
 use Prim.Native.Nat.{ℕ, zero, suc, _≤_}
@@ -35,6 +35,10 @@ body-none (suc kind) above = List·getD-eq-default bodies noBody (above (omega a
 -- what the fields of a record of a known kind mean
 pub fields-at : (s : List ℕ) (kind i : ℕ) (r : Reading) → kind ≡ i → r ≡ fields (bodyOf i) s → r ≡ fields (bodyOf kind) s
 fields-at s kind i r e h = h ∙ ap (λ k. fields (bodyOf k) s) (sym e)
+
+-- and how long it is at least
+pub long-at : (s : List ℕ) {kind : ℕ} (i : ℕ) → kind ≡ i → lengthOf kind ≤ length s → lengthOf i ≤ length s
+long-at s i e h = subst (λ k. lengthOf k ≤ length s) e h
 
 -- what `reading` is, by the length that the first byte's kind has
 module _ (s : List ℕ) where

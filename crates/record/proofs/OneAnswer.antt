@@ -16,9 +16,6 @@ byte-at-once κ s i r₁ r₂ p q = p ∙ sym q
 pub length-of-once : (κ : _) (kind : _) (r₁ : _) (r₂ : _) → Rattle.record.proofs.read.length_of.Reads.Post κ (kind, tt) r₁ (kind, tt) → Rattle.record.proofs.read.length_of.Reads.Post κ (kind, tt) r₂ (kind, tt) → r₁ ≡ r₂
 length-of-once κ kind r₁ r₂ p q = p ∙ sym q
 
-pub fields-of-once : (κ : _) (kind : _) (s : _) (r₁ : _) (r₂ : _) → Rattle.record.proofs.read.fields_of.Reads.Post κ (kind, (s, tt)) r₁ (kind, (s, tt)) → Rattle.record.proofs.read.fields_of.Reads.Post κ (kind, (s, tt)) r₂ (kind, (s, tt)) → r₁ ≡ r₂
-fields-of-once κ kind s r₁ r₂ p q = p ∙ sym q
-
 pub read-once : (κ : _) (s : _) (r₁ : _) (r₂ : _) → Rattle.record.proofs.read.read.Reads.Post κ (s, tt) r₁ (s, tt) → Rattle.record.proofs.read.read.Reads.Post κ (s, tt) r₂ (s, tt) → r₁ ≡ r₂
 read-once κ s r₁ r₂ p q = p ∙ sym q
 

@@ -1,5 +1,6 @@
 // Reading an event record from its bytes.
 ghost use mathlib.Core.Path.{_≡_};
+ghost use Prim.Native.Nat.{_≤_};
 ghost use mathlib.Core.Bool.{cond, _&&_};
 ghost use lib.ListN.{length, getD};
 ghost use Rattle.record.specs.Partners.{partnerOk};
@@ -97,21 +98,23 @@ fn within(ok: bool, event: Event) -> Reading
 }
 
 fn partner_in(s: &[u8]) -> Partner
+    requires { ⌜ 5 ≤ length (now s) ⌝ }
     ensures { λ r. ⌜ r ≡ partnerIn (now (s .entry)) ⌝ }
 {
     Partner {
-        kind: byte_at(s, 1),
-        high: byte_at(s, 2),
-        middle: byte_at(s, 3),
-        low: byte_at(s, 4),
+        kind: s[1],
+        high: s[2],
+        middle: s[3],
+        low: s[4],
     }
 }
 
 fn level_body(s: &[u8]) -> Reading
+    requires { ⌜ 3 ≤ length (now s) ⌝ }
     ensures { λ r. ⌜ r ≡ fields levelBody (now (s .entry)) ⌝ }
 {
-    let level = byte_at(s, 1);
-    let manual = byte_at(s, 2);
+    let level = s[1];
+    let manual = s[2];
     within(
         and(level <= HIGHEST_LEVEL, manual <= 1),
         Event::Level {
@@ -122,9 +125,10 @@ fn level_body(s: &[u8]) -> Reading
 }
 
 fn mission_body(s: &[u8]) -> Reading
+    requires { ⌜ 2 ≤ length (now s) ⌝ }
     ensures { λ r. ⌜ r ≡ fields missionBody (now (s .entry)) ⌝ }
 {
-    let mission = byte_at(s, 1);
+    let mission = s[1];
     within(
         mission <= HIGHEST_MISSION,
         Event::Mission {
@@ -134,9 +138,10 @@ fn mission_body(s: &[u8]) -> Reading
 }
 
 fn hole_body(s: &[u8]) -> Reading
+    requires { ⌜ 2 ≤ length (now s) ⌝ }
     ensures { λ r. ⌜ r ≡ fields holeBody (now (s .entry)) ⌝ }
 {
-    let entered = byte_at(s, 1);
+    let entered = s[1];
     within(
         entered <= 1,
         Event::Hole {
@@ -171,12 +176,14 @@ fn order_of(partner: Partner, accepting: u8, cause: u8) -> Reading
 }
 
 fn order_body(s: &[u8]) -> Reading
+    requires { ⌜ 7 ≤ length (now s) ⌝ }
     ensures { λ r. ⌜ r ≡ fields orderBody (now (s .entry)) ⌝ }
 {
-    order_of(partner_in(s), byte_at(s, 5), byte_at(s, 6))
+    order_of(partner_in(s), s[5], s[6])
 }
 
 fn partner_body(s: &[u8], event: PartnerEvent) -> Reading
+    requires { ⌜ 5 ≤ length (now s) ⌝ }
     ensures { λ r. ⌜ r ≡ fields (partnerBody event) (now (s .entry)) ⌝ }
 {
     let partner = partner_in(s);
@@ -184,9 +191,10 @@ fn partner_body(s: &[u8], event: PartnerEvent) -> Reading
 }
 
 fn end_all_body(s: &[u8]) -> Reading
+    requires { ⌜ 2 ≤ length (now s) ⌝ }
     ensures { λ r. ⌜ r ≡ fields endAllBody (now (s .entry)) ⌝ }
 {
-    within(byte_at(s, 1) <= 1, Event::EndAll)
+    within(s[1] <= 1, Event::EndAll)
 }
 
 fn message_of(partner: Partner, number: u8, version: u8) -> Reading
@@ -215,13 +223,15 @@ fn message_of(partner: Partner, number: u8, version: u8) -> Reading
 }
 
 fn message_body(s: &[u8]) -> Reading
+    requires { ⌜ 7 ≤ length (now s) ⌝ }
     ensures { λ r. ⌜ r ≡ fields messageBody (now (s .entry)) ⌝ }
 {
-    message_of(partner_in(s), byte_at(s, 5), byte_at(s, 6))
+    message_of(partner_in(s), s[5], s[6])
 }
 
-// What the fields of a record of this kind mean; refusal 3 where one is outside its range, or where no kind has that number.
-pub fn fields_of(kind: u8, s: &[u8]) -> Reading
+// What the fields of a record of this kind mean; refusal 3 where one is outside its range.
+fn fields_of(kind: u8, s: &[u8]) -> Reading
+    requires { ⌜ lengthOf kind ≤ length (now s) ⌝ }
     ensures { λ r. ⌜ r ≡ fields (bodyOf kind) (now (s .entry)) ⌝ }
 {
     match kind {

@@ -1,49 +1,43 @@
 -- One record of a run, stepped on values: it is the step on the record's bytes.
--- Proves: applied-reading, applied-done, applied-kept.
-use mathlib.Core.Path.{_≡_, refl, sym, ap, subst, _∙_}
+-- Proves: applied-reading, applied-numbered, applied-done, applied-kept.
+use mathlib.Core.Path.{_≡_, sym, ap, subst, _∙_}
 use mathlib.Core.Bool.{true}
 use mathlib.Core.List.{List}
-use Prim.Native.Nat.{ℕ, _+_, _≤_, _<_}
+use Prim.Native.Nat.{ℕ, _+_, _≤_}
 use native.Mathlib.Omega.{arith}
 use lib.Dec.{leb, lit≤}
-use lib.ListN.{length, getD, take}
+use lib.ListN.{length, take}
 use borrow.Author.Tests.{leb-true}
-use Rattle.record.specs.Records.{lengthOf, bodyOf, fields, reading}
+use Rattle.record.specs.Records.{reading}
 use Rattle.record.specs.Refusals.{accepted, wrongLength, outOfRange}
 use Rattle.record.specs.declared.event.Event.{Event}
 use Rattle.record.specs.declared.event.Reading.{Reading}
-use Rattle.record.specs.declared.event.Reading.the-variants.{Meant, Refused}
+use Rattle.record.specs.declared.event.Reading.the-variants.{Refused}
 use Rattle.record.proofs.Tests.{and-left}
 use Rattle.record.proofs.Ranges.{readingOk, reading-ok}
-use Rattle.record.proofs.ByKind.{read-fields}
-use Rattle.place.specs.Places.{tryLimit}
 use Rattle.unit.specs.States.{sound}
 use Rattle.unit.specs.Steps.{Outcome, refused, step}
 use Rattle.unit.specs.OnRecords.{actionRoom, onReading, onRecord}
 use Rattle.unit.specs.Forms.{mostActions, listed, packed}
 use Rattle.unit.specs.declared.state.State.{State}
 use Rattle.unit.specs.declared.answer.Answer.{Answer}
-use Rattle.unit.proofs.Kept.{step-kept}
+use Rattle.unit.proofs.AsGiven.{step-kept}
 use Rattle.unit.proofs.Written.{listed-take}
-use Rattle.unit.proofs.Bytewise.{on-reading}
+use Rattle.unit.proofs.OnBytes.{on-reading}
 use Rattle.run.specs.Runs.{totalled, counted}
 use Rattle.run.specs.declared.Totals.{Totals}
 use Rattle.run.specs.declared.Tally.{Tally}
 use Rattle.run.proofs.Tallies.{counted-done, counted-kept}
 
-module _ (n : ℕ) (s : State) (bytes : List ℕ) (good : sound n s ≡ true) (some : 0 < length bytes) (whole : length bytes ≡ lengthOf (getD bytes 0 0)) (r : Reading) (means : r ≡ fields (bodyOf (getD bytes 0 0)) bytes) where
-  -- a whole record of a known kind reads as its fields
-  read-as : reading bytes ≡ r
-  read-as =
-      sym (read-fields bytes (length bytes) (λ h. omega arith) whole (λ h. omega arith) refl) ∙ sym means
-
+module _ (n : ℕ) (s : State) (bytes : List ℕ) (good : sound n s ≡ true) (r : Reading) (means : r ≡ reading bytes) where
+  -- the step on a record is the step on what it reads as
   pub applied-reading : onRecord n s bytes actionRoom ≡ onReading n s r
-  applied-reading = on-reading n s bytes actionRoom (lit≤ tt) r good read-as
+  applied-reading = on-reading n s bytes actionRoom (lit≤ tt) r good (sym means)
 
   -- a reading's refusal has a number
   pub applied-numbered : (code : ℕ) → r ≡ Refused code → code ≡ accepted → ⊥
   applied-numbered code is-refused none =
-      let ok : readingOk (Refused code) ≡ true = subst (λ x. readingOk x ≡ true) (read-as ∙ is-refused) (reading-ok bytes) in
+      let ok : readingOk (Refused code) ≡ true = subst (λ x. readingOk x ≡ true) (sym means ∙ is-refused) (reading-ok bytes) in
       let number = leb-true wrongLength code (and-left (leb wrongLength code) (leb code outOfRange) ok) in
       omega arith
 

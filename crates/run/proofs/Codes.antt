@@ -1,7 +1,7 @@
 -- In a run no record is refused with 1, 2, 10 or 11: each step's number is 0 or 3 to 9.
 -- Proves: step-code, steps-codes, run-codes.
-use mathlib.Core.Path.{_≡_, refl, sym, ap, subst, _∙_}
-use mathlib.Core.Bool.{Bool, true, false, cond, _&&_}
+use mathlib.Core.Path.{_≡_, refl, ap, _∙_}
+use mathlib.Core.Bool.{Bool, true, cond}
 use mathlib.Core.List.{List, [], _∷_}
 use Prim.Native.Nat.{ℕ, zero, suc, _≤_}
 use native.Mathlib.Omega.{arith}
@@ -16,7 +16,6 @@ use Rattle.record.specs.declared.event.Cause.{Cause}
 use Rattle.record.specs.declared.event.PartnerEvent.{PartnerEvent}
 use Rattle.record.specs.declared.event.Event.{Event}
 use Rattle.record.specs.declared.event.Event.the-variants.{Level, Mission, Mode, Hole, Order, EndAll, Call, Named}
-use Rattle.record.specs.declared.event.Reading.{Reading}
 use Rattle.record.specs.declared.event.Reading.the-variants.{Meant, Refused}
 use Rattle.record.proofs.Tests.{and-both, cond-case, cond-holds}
 use Rattle.place.specs.Places.{vacant}
@@ -32,9 +31,8 @@ use Rattle.unit.proofs.Sound.{onRecord-sound}
 use Rattle.run.specs.Runs.{longestLog, takeOne, onTaken, steps, fresh, go, runRefused, run, runCode, allCodes}
 use Rattle.run.specs.declared.Taken.{Taken}
 use Rattle.run.specs.declared.Taken.the-variants.{Whole, Stopped}
-use Rattle.run.proofs.Tallies.{bounded-fresh}
 use Rattle.run.proofs.Applied.{applied-reading}
-use Rattle.run.proofs.Going.{part-ready}
+use Rattle.run.proofs.Going.{part-reads}
 
 abbrev Fine : Outcome → Type 0
 Fine o = runCode (o .code) ≡ true
@@ -100,9 +98,9 @@ steps-codes n some-try (suc budget) s (x ∷ log) good small =
     by (Stopped stop) e rest = refl
     by (Whole k) e rest =
         let bytes = take k (x ∷ log) in
-        let ready = part-ready n some-try (x ∷ log) (fresh s) k (omega arith) small e bytes refl (bounded-fresh s) good in
+        let reads = part-reads n some-try (x ∷ log) (fresh s) k (omega arith) small e bytes refl in
         and-both (runCode (next k .code)) (allCodes (steps n budget (next k .state) (drop k (x ∷ log))))
-        (ap (λ o. runCode (o .code)) (applied-reading n s bytes good (ready .3) (ready .4) (fields (bodyOf (getD bytes 0 0)) bytes) refl) ∙ fields-code n s (getD bytes 0 0) bytes)
+        (ap (λ o. runCode (o .code)) (applied-reading n s bytes good (fields (bodyOf (getD bytes 0 0)) bytes) reads) ∙ fields-code n s (getD bytes 0 0) bytes)
         (rest k)
 
 -- "In every run that is not itself refused": from any state, whatever the log and the budget

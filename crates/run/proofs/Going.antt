@@ -1,5 +1,5 @@
 -- One turn of the run's loop: what stands at the front is a whole record, and the run goes on after it.
--- Proves: whole-ok, part-is, part-ready, run-next.
+-- Proves: whole-ok, part-is, part-reads, part-ready, run-next.
 use mathlib.Core.Path.{_≡_, refl, sym, ap, ap₂, subst, _∙_}
 use mathlib.Core.Bool.{true, cond}
 use mathlib.Core.List.{List}
@@ -10,8 +10,9 @@ use lib.Dec.{leb}
 use lib.ListN.{length, getD, take, drop, length-drop}
 use lib.Seq.{drop-drop, getD-take, getD-drop, length-take-le}
 use borrow.Author.Tests.{ltb-true, leb-true}
-use Rattle.record.specs.Records.{known, lengthOf}
+use Rattle.record.specs.Records.{known, lengthOf, bodyOf, fields, reading}
 use Rattle.record.proofs.Tests.{cond-case}
+use Rattle.record.proofs.ByKind.{read-fields}
 use Rattle.unit.specs.States.{sound}
 use Rattle.unit.specs.OnRecords.{actionRoom, onRecord}
 use Rattle.unit.proofs.Sound.{onRecord-sound}
@@ -62,16 +63,17 @@ module _ (n : ℕ) (some-try : 1 ≤ n) (log : List ℕ) (t : Tally) (k : ℕ) (
       ∙ getD-drop (t .offset) log 0 0
       ∙ ap (λ i. getD log i 0) (add-zero (t .offset))
 
+  -- it reads as its fields
+  pub part-reads : fields (bodyOf (getD part 0 0)) part ≡ reading part
+  part-reads =
+      let ok = whole-ok log (t .offset) k below e in
+      read-fields part (length part) (λ h. omega (arith, part-length, ok .1)) (part-length ∙ ok .0 ∙ ap lengthOf (sym part-kind)) (λ h. omega (arith, part-length, ok .1)) refl
+
   -- what the step on it asks
-  pub part-ready : Bounded t → sound n (t .state) ≡ true → Bounded t × (t .offset + length part ≤ longestLog) × (sound n (t .state) ≡ true) × (0 < length part) × (length part ≡ lengthOf (getD part 0 0))
+  pub part-ready : Bounded t → sound n (t .state) ≡ true → Bounded t × (t .offset + length part ≤ longestLog) × (sound n (t .state) ≡ true)
   part-ready bounded good =
-      let ok = whole-ok log (t .offset) k below e in (
-        bounded,
-        omega (arith, part-length, ok .2),
-        good,
-        omega (arith, part-length, ok .1),
-        part-length ∙ ok .0 ∙ ap lengthOf (sym part-kind),
-      )
+      let ok = whole-ok log (t .offset) k below e in
+      (bounded, omega (arith, part-length, ok .2), good)
 
   next : Tally
   next = counted t k (onRecord n (t .state) (take k (drop (t .offset) log)) actionRoom)

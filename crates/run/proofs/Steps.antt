@@ -1,39 +1,24 @@
 -- The counts of a run are those of its steps, and no step of a run is refused with 1, 2, 10 or 11.
 -- Proves: go-sum; run-read, run-refused, run-request .. run-established; run-codes.
-use mathlib.Core.Path.{_≡_, refl, sym, ap, subst, _∙_}
-use mathlib.Core.Bool.{Bool, true, false, cond, _&&_, not}
+use mathlib.Core.Path.{_≡_, refl, sym, ap, _∙_}
+use mathlib.Core.Bool.{cond}
 use mathlib.Core.List.{List, [], _∷_}
-use Prim.Native.Nat.{ℕ, zero, suc, _+_, _≤_, _<_}
-use native.Mathlib.Nat.{add-zero, zero-add, add-assoc}
+use Prim.Native.Nat.{ℕ, zero, suc, _+_}
+use native.Mathlib.Nat.{add-zero, zero-add}
 use native.Mathlib.Omega.{arith}
 use lib.Dec.{eqb, leb}
-use lib.ListN.{length, getD, take, drop}
-use borrow.Author.Tests.{leb-true}
-use Rattle.record.specs.Records.{known, lengthOf, bodyOf, fields, reading, missionEnded}
-use Rattle.record.specs.Partners.{isRbc}
+use lib.ListN.{length, take, drop}
 use Rattle.record.specs.Refusals as refusal
-use Rattle.record.specs.declared.event.Event.{Event}
-use Rattle.record.specs.declared.event.Event.the-variants.{Level, Mission, Mode, Hole, Order, EndAll, Call, Named}
-use Rattle.record.specs.declared.event.Reading.{Reading}
-use Rattle.record.specs.declared.event.Reading.the-variants.{Meant, Refused}
-use Rattle.record.proofs.Tests.{and-both, cond-case, cond-holds}
-use Rattle.place.specs.Places.{vacant}
-use Rattle.place.specs.Table.{request, release, incompatible, initiate, terminate, established, takes, placeTurn}
-use Rattle.place.specs.declared.turn.Due.the-variants.{Every}
-use Rattle.unit.specs.States.{seek, sound}
-use Rattle.unit.specs.Steps.{Outcome, refused, done, withMission, holeTaken, inForce, sweep, orderedAt, calledAt, turnedAt, turned, namedAt, step}
-use Rattle.unit.specs.OnRecords.{actionRoom, onReading, onRecord}
+use Rattle.record.proofs.Tests.{cond-case, cond-holds}
+use Rattle.place.specs.Table.{request, release, incompatible, initiate, terminate, established}
+use Rattle.unit.specs.States.{sound}
+use Rattle.unit.specs.Steps.{Outcome, refused}
+use Rattle.unit.specs.OnRecords.{actionRoom, onRecord}
 use Rattle.unit.specs.declared.state.State.{State}
-use Rattle.unit.specs.declared.state.Found.{Found}
-use Rattle.unit.specs.declared.state.Found.the-variants.{At, Vacant, Full}
-use Rattle.unit.proofs.Sound.{onRecord-sound}
-use Rattle.run.specs.Runs.{longestLog, takeOne, onTaken, steps, count, totalled, counted, fresh, ended, go, runRefused, run, sumOf, runCode, allCodes}
+use Rattle.run.specs.Runs.{longestLog, takeOne, onTaken, steps, count, totalled, counted, fresh, ended, go, runRefused, run, sumOf}
 use Rattle.run.specs.declared.Tally.{Tally}
-use Rattle.run.specs.declared.Report.{Report}
 use Rattle.run.specs.declared.Taken.{Taken}
 use Rattle.run.specs.declared.Taken.the-variants.{Whole, Stopped}
-use Rattle.run.proofs.Applied.{applied-reading}
-use Rattle.run.proofs.Going.{whole-ok}
 
 -- a count that each record changes by what its step counts for is the sum over the steps
 module _ (f : Tally → ℕ) (w : Outcome → ℕ) (each : (t : Tally) (k : ℕ) (o : Outcome) → f (counted t k o) ≡ f t + w o) (n : ℕ) where

@@ -3,7 +3,7 @@
 use mathlib.Core.Path.{_≡_, refl, sym, ap, _∙_}
 use mathlib.Core.Bool.{cond}
 use mathlib.Core.List.{List, [], _∷_}
-use Prim.Native.Nat.{ℕ, zero, suc, _+_, _-_, _≤_, _<_}
+use Prim.Native.Nat.{ℕ, zero, suc, _-_, _≤_, _<_}
 use native.Mathlib.Omega.{arith}
 use lib.Dec.{leb}
 use lib.ListN.{length, getD, take, drop, length-drop, drop-of-length-le}
@@ -13,7 +13,6 @@ use Rattle.record.specs.Records.{known, lengthOf}
 use Rattle.unit.specs.OnRecords.{actionRoom, onRecord}
 use Rattle.run.specs.Runs.{nothingLeft, budgetUsed, recordShort, kindUnknown, takeOne, onTaken, counted, ended, go}
 use Rattle.run.specs.declared.Tally.{Tally}
-use Rattle.run.specs.declared.Taken.{Taken}
 use Rattle.run.specs.declared.Taken.the-variants.{Whole, Stopped}
 
 module _ (log : List ℕ) (at : ℕ) where

@@ -1,24 +1,24 @@
 -- The counts of a run, one record more.
--- Proves: totalled-none, totalled-next, added-below; counted-done, counted-kept; below-more, bounded-fresh, bounded-next.
+-- Proves: totalled-next, totalled-end, totalled-past, added-below; counted-done, counted-kept; below-more, bounded-fresh, bounded-next.
 use mathlib.Core.Path.{_≡_, refl, sym, ap, ap₂, _∙_}
 use mathlib.Core.Bool.{Bool, true, false, cond}
 use mathlib.Core.List.{List, [], _∷_}
 use Prim.Native.Nat.{ℕ, suc, _+_, _*_, _≤_, _<_}
-use native.Mathlib.Nat.{add-zero}
+use native.Mathlib.Nat.{add-zero, min-le-left}
 use native.Mathlib.Numerals.{add-one}
 use native.Mathlib.Omega.{arith}
 use lib.Dec.{eqb}
-use lib.ListN.{length, getD, take, drop}
+use lib.ListN.{length, getD, take, drop, length-take, drop-of-length-le}
 use lib.Seq.{drop-cons, getD-take, length-take-le}
 use borrow.Author.Tests.{eq-eqb, ne-eqb}
 use Rattle.record.specs.Refusals.{accepted, outOfRange}
-use Rattle.record.proofs.Tests.{cond-case, cond-holds}
+use Rattle.record.proofs.Tests.{cond-holds}
 use Rattle.place.specs.Table.{request, release, incompatible, initiate, terminate, established}
 use Rattle.unit.specs.Steps.{Outcome, refused}
 use Rattle.unit.specs.Forms.{noAction, mostActions}
 use Rattle.unit.specs.declared.state.State.{State}
 use Rattle.unit.specs.declared.answer.Action.{Action}
-use Rattle.run.specs.Runs.{count, noTotals, totalled, added, Below, Bounded, fresh, counted}
+use Rattle.run.specs.Runs.{count, totalled, added, Below, Bounded, fresh, counted}
 use Rattle.run.specs.declared.Totals.{Totals}
 use Rattle.run.specs.declared.Tally.{Tally}
 
@@ -59,6 +59,15 @@ totalled-next t items few i below enough =
     ap (totalled t) (drop-cons (take few items) i noAction (omega (arith, length-take-le few items enough)))
     ∙ totalled-cons t (getD (take few items) i noAction) (drop (suc i) (take few items))
     ∙ ap₂ (λ a k. totalled (added t (a .number)) (drop k (take few items))) (getD-take few items i noAction below) (sym (add-one i))
+
+-- past the last action nothing is counted
+pub totalled-end : (t : Totals) (items : List Action) (few i : ℕ) → few ≤ i → totalled t (drop i (take few items)) ≡ t
+totalled-end t items few i above =
+    let all : length (take few items) ≤ few = rw (length-take few items) (min-le-left few (length items)) in
+    ap (totalled t) (drop-of-length-le (take few items) {i = i} (omega arith)) ∙ totalled-none t
+
+pub totalled-past : (t : Totals) (items : List Action) (few i : ℕ) → few ≤ i → totalled t (drop i (take few items)) ≡ totalled t (drop (i + 1) (take few items))
+totalled-past t items few i above = totalled-end t items few i above ∙ sym (totalled-end t items few (i + 1) (omega arith))
 
 -- what is under a number is under a larger one, and one more action adds at most one
 pub below-more : {b c : ℕ} {t : Totals} → b ≤ c → Below b t → Below c t

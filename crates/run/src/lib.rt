@@ -2,8 +2,7 @@
 ghost use mathlib.Core.Path.{_≡_};
 ghost use Prim.Native.Nat.{_+_, _≤_, _<_};
 ghost use mathlib.Core.Bool.{true};
-ghost use lib.ListN.{length, getD, take, drop};
-ghost use Rattle.record.specs.Records.{lengthOf};
+ghost use lib.ListN.{length, take, drop};
 ghost use Rattle.record.specs.Refusals.{outOfRange};
 ghost use Rattle.place.specs.Places.{tryLimit};
 ghost use Rattle.unit.specs.States.{sound};
@@ -17,8 +16,8 @@ use place::turn::RELEASE;
 use place::turn::REQUEST;
 use place::turn::TERMINATE;
 use record::event::Reading;
-use record::read::fields_of;
 use record::read::length_of;
+use record::read::read;
 use record::refusal::ACCEPTED;
 use record::refusal::LOG_TOO_LONG;
 use record::refusal::NOT_SOUND;
@@ -118,20 +117,28 @@ impl Totals {
         }
     }
 
-    // The actions of one step.
+    // One more action: the one of this number among a step's, if it has so many.
+    fn add_at(self, actions: Actions, i: usize) -> Totals
+        requires { ⌜ (actions .count ≤ 4) × (i < 4) × Below (4194304 + i) self ⌝ }
+        ensures { λ r. ⌜ Below (4194304 + (i + 1)) r × (totalled self (drop i (take (actions .count) (actions .items))) ≡ totalled r (drop (i + 1) (take (actions .count) (actions .items)))) ⌝ }
+    {
+        if i < actions.count {
+            let action = actions.items[i];
+            self.add(action.number)
+        } else {
+            self
+        }
+    }
+
+    // The actions of one step, of which there are at most four.
     fn add_all(self, actions: Actions) -> Totals
         requires { ⌜ (actions .count ≤ 4) × Below 4194304 self ⌝ }
         ensures { λ r. ⌜ r ≡ totalled self (take (actions .count) (actions .items)) ⌝ }
     {
-        let mut totals = self;
-        let count = actions.count;
-        let mut i = 0;
-        while i < count {
-            let action = actions.items[i];
-            totals = totals.add(action.number);
-            i += 1;
-        }
-        totals
+        self.add_at(actions, 0)
+            .add_at(actions, 1)
+            .add_at(actions, 2)
+            .add_at(actions, 3)
     }
 }
 
@@ -178,13 +185,12 @@ impl Tally {
         next
     }
 
-    // The run after one more record, which stands whole in these bytes.
+    // The run after one more record.
     fn apply(self, bytes: &[u8]) -> Tally
-        requires { ⌜ Bounded self × (self .offset + length (now bytes) ≤ 1048576) × (sound tryLimit (self .state) ≡ true) × (0 < length (now bytes)) × (length (now bytes) ≡ lengthOf (getD (now bytes) 0 0)) ⌝ }
+        requires { ⌜ Bounded self × (self .offset + length (now bytes) ≤ 1048576) × (sound tryLimit (self .state) ≡ true) ⌝ }
         ensures { λ r. ⌜ r ≡ counted self (length (now (bytes .entry))) (onRecord tryLimit (self .state) (now (bytes .entry)) actionRoom) ⌝ }
     {
-        let kind = bytes[0];
-        match fields_of(kind, bytes) {
+        match read(bytes) {
             Reading::Meant(event) => {
                 let state = self.state;
                 let answer = state.step(event);

@@ -1,4 +1,5 @@
-// Steps on bytes through the log on standard input, each record given 20 bytes, and prints the records, those refused, and the actions.
+// Steps on bytes through the log on standard input, with one buffer of 20 bytes for all records, and prints the records, those refused,
+// the actions, and then the buffer's bytes as they are.
 use libc::STDIN_FILENO;
 use libc::STDOUT_FILENO;
 use place::turn::Limits;
@@ -38,7 +39,7 @@ impl Walk {
     }
 
     // Steps on the record that stands next, if one stands whole.
-    fn next(self, log: &[u8]) -> Walk {
+    fn next(self, log: &[u8], actions: &mut [u8]) -> Walk {
         let at = self.at;
         let Taken::Whole(length) = take_one(log, at) else {
             return self.stopped();
@@ -50,9 +51,8 @@ impl Walk {
             return self.stopped();
         }
         let end = at + length;
-        let mut actions = [0u8; 20];
         let state = self.state;
-        let answer = state.on_record(&log[at..end], &mut actions);
+        let answer = state.on_record(&log[at..end], actions);
         let next = answer.state;
         Walk {
             state: next,
@@ -65,7 +65,7 @@ impl Walk {
     }
 }
 
-fn through(log: &[u8]) -> Walk {
+fn through(log: &[u8], actions: &mut [u8]) -> Walk {
     let start = cold_start(Limits {
         lowest: 1,
         highest: 2,
@@ -81,7 +81,7 @@ fn through(log: &[u8]) -> Walk {
     };
     let mut left = log.len();
     while left > 0 {
-        so_far = so_far.next(log);
+        so_far = so_far.next(log, actions);
         if so_far.more {
             left -= 1;
         } else {
@@ -108,7 +108,9 @@ fn print(end: Walk) {
 
 fn steps_on(room: &mut [u8]) {
     let n = io::read_full(STDIN_FILENO, room);
-    print(through(&room[..n]));
+    let mut actions = [0u8; 20];
+    print(through(&room[..n], &mut actions));
+    io::write_all(STDOUT_FILENO, &actions);
 }
 
 // A reference to an array of this length is lent on as a slice with no proof; an array of a million zeros is not.

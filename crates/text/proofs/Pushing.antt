@@ -1,14 +1,12 @@
 -- Characters pushed one after the other, and the text put into a buffer.
 -- Proves: pushes-append, pushes-next, pushes-actions; pushes-text, texted-take; placed-none, placed-more, placed-all.
 use mathlib.Core.Path.{_≡_, refl, sym, ap, ap₂, _∙_}
-use mathlib.Core.Bool.{cond}
 use mathlib.Core.List.{List, [], _∷_, _++_, append-nil, append-assoc}
 use Prim.Native.Nat.{ℕ, suc, _+_, _≤_, _<_}
 use native.Mathlib.Numerals.{add-one}
 use native.Mathlib.Omega.{arith}
-use lib.Dec.{leb}
-use lib.ListN.{length, getD, take, drop, set, length-append, length-take, length-drop}
-use lib.Seq.{drop-cons, getD-take, take-suc, set-at, length-take-le, take-all}
+use lib.ListN.{length, getD, take, drop, set, length-append, length-take}
+use lib.Seq.{drop-cons, getD-take, take-suc, set-at, length-take-le}
 use borrow.Author.Tests.{lt-ltb, le-leb, lt-leb}
 use Rattle.record.specs.Blocks.{blocks}
 use Rattle.record.proofs.Padded.{padded-push, padded-take}

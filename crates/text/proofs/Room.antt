@@ -1,12 +1,12 @@
 -- Every line of a sheet has room.
 -- Proves: decimal-room, line-room, end-room.
-use mathlib.Core.List.{List, [], _∷_, _++_}
-use Prim.Native.Nat.{ℕ, _+_, _*_, _≤_}
+use mathlib.Core.List.{List, [], _∷_}
+use Prim.Native.Nat.{ℕ, _*_, _≤_}
 use native.Mathlib.Omega.{arith}
 use lib.ListN.{length, length-append}
 use Rattle.record.specs.Blocks.{blocks}
 use Rattle.unit.specs.declared.answer.Action.{Action}
-use Rattle.text.specs.Texts.{newline, space, slash, colon, mostDigits, decimal, partnerNumber, actionText, lineText, endText, textRoom}
+use Rattle.text.specs.Texts.{mostDigits, decimal, partnerNumber, actionText, lineText, endText, textRoom}
 use Rattle.text.proofs.Numbers.{digits-few}
 
 few : (n : ℕ) → length (decimal n) ≤ mostDigits

@@ -11,9 +11,6 @@ actions-push-once κ self partner number r₁ r₂ p q = p ∙ sym q
 pub actions-send-once : (κ : _) (self : _) (partner : _) (turn : _) (r₁ : _) (r₂ : _) → Rattle.unit.proofs.answer.Actions.send.Reads.Post κ (self, (partner, (turn, tt))) r₁ (self, (partner, (turn, tt))) → Rattle.unit.proofs.answer.Actions.send.Reads.Post κ (self, (partner, (turn, tt))) r₂ (self, (partner, (turn, tt))) → r₁ ≡ r₂
 actions-send-once κ self partner turn r₁ r₂ p q = p ∙ sym q
 
-pub answer-quiet-once : (κ : _) (state : _) (r₁ : _) (r₂ : _) → Rattle.unit.proofs.answer.Answer.quiet.Reads.Post κ (state, tt) r₁ (state, tt) → Rattle.unit.proofs.answer.Answer.quiet.Reads.Post κ (state, tt) r₂ (state, tt) → r₁ ≡ r₂
-answer-quiet-once κ state r₁ r₂ p q = p ∙ sym q
-
 pub answer-refused-once : (κ : _) (code : _) (state : _) (r₁ : _) (r₂ : _) → Rattle.unit.proofs.answer.Answer.refused.Reads.Post κ (code, (state, tt)) r₁ (code, (state, tt)) → Rattle.unit.proofs.answer.Answer.refused.Reads.Post κ (code, (state, tt)) r₂ (code, (state, tt)) → r₁ ≡ r₂
 answer-refused-once κ code state r₁ r₂ p q = p ∙ sym q
 

@@ -1,15 +1,13 @@
 -- The closing of the places that are due, place after place as the code does it.
--- Proves: swept-place, swept-more, sent-more, swept-all, sent-all; sweep-places, sweep-actions; taken-room.
+-- Proves: swept-place, swept-more, sent-more, swept-all, sent-all; sweep-places, sweep-actions.
 use mathlib.Core.Path.{_≡_, refl, sym, ap, ap₂, _∙_}
-use mathlib.Core.Bool.{true}
 use mathlib.Core.List.{List, [], _∷_, _++_, map, append-nil, append-assoc}
 use Prim.Native.Nat.{ℕ, suc, _+_, _≤_, _<_}
 use native.Mathlib.Numerals.{add-one}
 use native.Mathlib.Omega.{arith}
 use lib.ListN.{length, getD, take, drop, set, drop-of-length-le, length-map}
 use lib.Seq.{drop-cons, take-suc, take-all, getD-at, set-at, length-take-le}
-use Rattle.record.proofs.Tests.{cond-holds}
-use Rattle.place.specs.Places.{vacant, isFree, partnerIn, partnerOf}
+use Rattle.place.specs.Places.{vacant, partnerIn, partnerOf}
 use Rattle.place.specs.Table.{numbers, placeAfter, shutHolding, shutTurn}
 use Rattle.place.specs.declared.seat.Holding.{Holding}
 use Rattle.place.specs.declared.seat.Holding.the-variants.{Free, Held}
@@ -21,8 +19,8 @@ use Rattle.unit.specs.declared.answer.Actions.{Actions}
 use Rattle.unit.specs.Steps.{act, actionsIn, shut, shutting}
 use Rattle.unit.specs.Forms.{mostActions, listed, pushAll}
 use Rattle.unit.proofs.Weights.{here, weigh-few, length-shut}
-use Rattle.unit.proofs.Few.{busy, once-few, shut-few, shutting-few, room-free}
-use Rattle.unit.proofs.Answers.{send-listed}
+use Rattle.unit.proofs.Few.{busy, once-few, shut-few, shutting-few}
+use Rattle.unit.proofs.Rules.{send-listed}
 
 shut-append : (which : Due) (xs ys : List Place) → shut which (xs ++ ys) ≡ shut which xs ++ shut which ys
 unfolding shut
@@ -115,10 +113,3 @@ module _ (which : Due) (ps : List Place) (i : ℕ) (below : i < length ps) (plac
       ∙ ap₂ (λ r u. pushAll before r (numbers u)) (partner ∙ ap partnerOf place-is) (turn ∙ ap (shutTurn which) place-is)
       ∙ ap (λ x. pushAll x (partnerOf (getD ps i vacant)) (numbers (shutTurn which (getD ps i vacant)))) sent
       ∙ sent-more which ps i below room
-
--- a closing has left room for one more action where a place was free
-pub taken-room : (which : Due) (ps : List Place) (i : ℕ) → length ps ≤ mostActions → i < length ps → isFree (getD ps i vacant) ≡ true → length (shutting which ps) < mostActions
-taken-room which ps i room below free =
-    let few = shutting-few which ps in
-    let left = room-free ps i below free in
-    omega arith

@@ -4,7 +4,7 @@ use Prim.Native.Nat.{ℕ, _*_}
 use mathlib.Core.Bool.{cond}
 use mathlib.Core.List.{List, [], _∷_, _++_}
 use lib.Dec.{leb}
-use lib.ListN.{length, take, drop, replicate}
+use lib.ListN.{length, drop}
 use Rattle.record.specs.Blocks.{blocks}
 use Rattle.record.specs.Records.{reading}
 use Rattle.record.specs.Refusals.{noRoom, notSound}

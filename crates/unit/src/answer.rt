@@ -2,7 +2,7 @@
 ghost use mathlib.Core.Path.{_≡_};
 ghost use mathlib.Core.List.{[]};
 ghost use Rattle.place.specs.Table.{numbers};
-ghost use Rattle.unit.specs.Steps.{refused, done};
+ghost use Rattle.unit.specs.Steps.{refused};
 ghost use Rattle.unit.specs.Forms.{listed, pushed, pushAll, packed};
 use crate::state::State;
 use place::turn::RELEASE;
@@ -98,17 +98,6 @@ impl Actions {
 }
 
 impl Answer {
-    // An accepted step without an action.
-    pub fn quiet(state: State) -> Answer
-        ensures { λ r. ⌜ r ≡ packed (done state []) ⌝ }
-    {
-        Answer {
-            code: ACCEPTED,
-            state,
-            actions: Actions::none(),
-        }
-    }
-
     // A refusal: the state as given, no action.
     pub fn refused(code: u8, state: State) -> Answer
         ensures { λ r. ⌜ r ≡ packed (refused code state) ⌝ }

@@ -1,6 +1,5 @@
 -- Nine stores; the numbers of a sound state fit their bytes.
 use borrow.Author.Needs.{needs}
-use mathlib.Core.Path.{refl}
 use native.Mathlib.Omega.{arith}
 use denote.Ref.{now}
 use lib.ListN.{set, length-set}

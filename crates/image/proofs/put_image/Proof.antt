@@ -1,7 +1,7 @@
 -- The head, then the places passed, then what stood there.
 use borrow.Author.Needs.{needs}
 use mathlib.Core.Path.{_≡_, refl, sym, ap, _∙_}
-use Prim.Native.Nat.{ℕ, _+_, _*_, _-_, _≤_}
+use Prim.Native.Nat.{_+_, _*_, _-_, _≤_}
 use native.Mathlib.Omega.{arith}
 use denote.Ref.{now}
 use lib.ListN.{length, length-map, getD, take-append-drop}
@@ -37,23 +37,11 @@ loop-holds : tie.Need-loop-holds Inv-loop μ-loop
 unfolding blocks
 loop-holds c = (omega arith, refl, refl, sym (take-append-drop 9 (c .before .before .put-head .last .0)))
 
-mul-place : tie.Need-mul-place Inv-loop μ-loop
-mul-place c = search needs
-
-element-copy-out-place : tie.Need-element-copy-out-place Inv-loop μ-loop
-element-copy-out-place c = omega arith
-
 put-place-requires : tie.Need-put-place-requires Inv-loop μ-loop
 put-place-requires c κs = omega (arith, c .before .before .before .before .before .before .before .before .before .pre .0, c .before .before .before .before .before .before .put-head .kept .0, c .before .before .before .loop .inv .1, c .before .before .before .loop .inv .2)
 
 add-at : tie.Need-add-at Inv-loop μ-loop
 add-at c = omega (arith, c .before .before .before .before .before .before .loop .inv .1)
-
-add-i : tie.Need-add-i Inv-loop μ-loop
-add-i c = omega arith
-
-loop-less : tie.Need-loop-less Inv-loop μ-loop
-loop-less c = omega arith
 
 loop-again : tie.Need-loop-again Inv-loop μ-loop
 loop-again c = (omega arith, omega (arith, c .before .before .before .before .before .before .loop .inv .1), ap length (c .before .before .put-place .ensures) ∙ length-sets (c .before .before .before .before .before .before .loop .s) (c .before .before .before .before .before .before .loop .at) (placeBytes (getD (c .before .before .before .before .before .before .before .before .before .before .before .before .args .t2 .places) (c .before .before .before .before .before .before .loop .i) vacant)) ∙ c .before .before .before .before .before .before .loop .inv .2, c .before .before .put-place .ensures ∙ ap (λ l. sets l (c .before .before .before .before .before .before .loop .at) (placeBytes (getD (c .before .before .before .before .before .before .before .before .before .before .before .before .args .t2 .places) (c .before .before .before .before .before .before .loop .i) vacant))) (c .before .before .before .before .before .before .loop .inv .3) ∙ filled-more placeBytes placeSize (λ p. placeBytes-length (p .holding)) 9 (c .before .before .before .before .before .before .before .before .before .before .before .before .args .t2 .places) (c .before .before .before .before .before .before .before .before .before .put-head .last .0) (c .before .before .before .before .before .before .loop .i) (c .before .before .before .before .before .before .loop .at) vacant (omega (arith, four (c .before .before .before .before .before .before .before .before .before .before .before .before))) (c .before .before .before .before .before .before .loop .inv .1) (omega (arith, c .before .before .before .before .before .before .before .before .before .before .before .before .pre .0, c .before .before .before .before .before .before .before .before .before .put-head .kept .0, c .before .before .before .before .before .before .loop .inv .1)))
@@ -65,4 +53,4 @@ returns : tie.Need-returns Inv-loop μ-loop
 returns c = c .before .loop .inv .3 ∙ (λ j. FilledTo placeBytes 9 (c .before .before .before .before .before .before .before .args .t2 .places) (c .before .before .before .before .put-head .ensures j) (all c j) (end c j)) ∙ image-end (c .before .before .before .before .before .before .before .args .t2) (now (c .before .before .before .before .before .before .before .args .s)) (four (c .before .before .before .before .before .before .before)) (c .before .before .before .before .before .before .before .pre .0)
 
 pub put-image-spec : {M : Type 1} → statement M
-put-image-spec = tie.close (tie.spec Inv-loop μ-loop put-head-requires loop-holds mul-place element-copy-out-place put-place-requires add-at add-i loop-less loop-again same-length returns)
+put-image-spec = tie.close (tie.spec Inv-loop μ-loop put-head-requires loop-holds (λ c. search needs) (λ c. omega arith) put-place-requires add-at (λ c. omega arith) (λ c. omega arith) loop-again same-length returns)

@@ -1,6 +1,5 @@
 -- The cold state with X from 0 to 0.
 use borrow.Author.Needs.{needs}
-use mathlib.Core.Path.{ap}
 use Rattle.unit.specs.States.{coldStart}
 use Rattle.image.proofs.refused.Statement.{statement}
 use Rattle.image.proofs.refused.Tie as tie

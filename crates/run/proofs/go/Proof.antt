@@ -22,29 +22,14 @@ Inv-loop log budget tally₀ left₀ tally left = (tally .offset ≤ length log)
 abbrev μ-loop : tie.MeasureT-loop
 μ-loop log budget tally₀ left₀ tally left = left
 
-fresh-requires : tie.Need-fresh-requires Inv-loop μ-loop
-fresh-requires c κs = search needs
-
 loop-holds : tie.Need-loop-holds Inv-loop μ-loop
 loop-holds c = rw (c .fresh .ensures) (omega arith, bounded-fresh (c .before .before .args .state), c .before .before .pre .1, refl)
-
-take-one-requires : tie.Need-take-one-requires Inv-loop μ-loop
-take-one-requires c κs = search needs
-
-enum-known-stop : tie.Need-enum-known-stop Inv-loop μ-loop
-enum-known-stop c = search needs
-
-enum-known-length : tie.Need-enum-known-length Inv-loop μ-loop
-enum-known-length c = search needs
 
 add-end : tie.Need-add-end Inv-loop μ-loop
 add-end c = omega (arith, whole-ok (now (c .before .before .before .before .before .before .before .before .before .args .log)) (c .before .before .before .before .before .before .loop .tally .offset) (c .before .length .given .0 .0) (c .before .before .before .before .before .if1 .left) (sym (c .before .before .before .take-one .ensures) ∙ c .before .length .given .1) .2, c .before .before .before .before .before .before .before .before .before .pre .0)
 
 sub-apply : tie.Need-sub-apply Inv-loop μ-loop
 sub-apply c = omega (arith, whole-ok (now (c .before .before .before .before .before .before .before .before .before .args .log)) (c .before .before .before .before .before .before .loop .tally .offset) (c .before .length .given .0 .0) (c .before .before .before .before .before .if1 .left) (sym (c .before .before .before .take-one .ensures) ∙ c .before .length .given .1) .2)
-
-part-apply-start : tie.Need-part-apply-start Inv-loop μ-loop
-part-apply-start c = omega arith
 
 part-apply-end : tie.Need-part-apply-end Inv-loop μ-loop
 part-apply-end c = omega (arith, whole-ok (now (c .before .before .before .before .before .before .before .before .before .args .log)) (c .before .before .before .before .before .before .loop .tally .offset) (c .before .length .given .0 .0) (c .before .before .before .before .before .if1 .left) (sym (c .before .before .before .take-one .ensures) ∙ c .before .length .given .1) .2)
@@ -71,4 +56,4 @@ returns-3 : tie.Need-returns-3 Inv-loop μ-loop
 returns-3 c = go-stop tryLimit (c .before .before .before .before .before .before .loop .tally) (c .before .before .before .before .before .before .loop .left) (c .before .before .before .before .if2 .left) (drop (c .before .before .before .before .before .before .loop .tally .offset) (now (c .before .before .before .before .before .before .before .before .before .args .log))) _ (sym (c .before .before .before .take-one .ensures) ∙ c .before .stop .given .1) ∙ sym (c .before .before .before .before .before .before .loop .inv .3) ∙ ap (λ t. go tryLimit (c .before .before .before .before .before .before .before .before .before .args .budget) t (now (c .before .before .before .before .before .before .before .before .before .args .log))) (c .before .before .before .before .before .before .before .fresh .ensures)
 
 pub go-spec : {M : Type 1} → statement M
-go-spec = tie.close (tie.spec Inv-loop μ-loop fresh-requires loop-holds take-one-requires enum-known-stop enum-known-length add-end sub-apply part-apply-start part-apply-end apply-requires sub-left loop-less loop-again returns returns-2 returns-3)
+go-spec = tie.close (tie.spec Inv-loop μ-loop (λ c κs. search needs) loop-holds (λ c κs. search needs) (λ c. search needs) (λ c. search needs) add-end sub-apply (λ c. omega arith) part-apply-end apply-requires sub-left loop-less loop-again returns returns-2 returns-3)

@@ -18,21 +18,6 @@ abbrev μ-loop : tie.MeasureT-loop
 loop-holds : tie.Need-loop-holds Inv-loop μ-loop
 loop-holds c = (omega arith, omega arith, refl, omega (arith, c .fits .n), sym (append-nil (decimal (c .args .n))))
 
-sub-i : tie.Need-sub-i Inv-loop μ-loop
-sub-i c = omega arith
-
-cast-bytes : tie.Need-cast-bytes Inv-loop μ-loop
-cast-bytes c = omega arith
-
-add-bytes : tie.Need-add-bytes Inv-loop μ-loop
-add-bytes c = omega arith
-
-array-write-bytes : tie.Need-array-write-bytes Inv-loop μ-loop
-array-write-bytes c = omega arith
-
-loop-less : tie.Need-loop-less Inv-loop μ-loop
-loop-less c = omega arith
-
 loop-again : tie.Need-loop-again Inv-loop μ-loop
 loop-again c = let less = rest-less (c .before .loop .rest) (c .before .loop .i) (c .before .loop .inv .3) (c .if1 .left) in (less .0, omega arith, simp length-set (c .before .loop .inv .2), less .1, digit-more (c .before .before .args .n) (c .before .loop .rest) (c .before .loop .i) (c .before .loop .bytes) (c .before .loop .inv .4) (c .before .loop .inv .0) (omega (arith, c .before .loop .inv .1, c .before .loop .inv .2)) (c .if1 .left))
 
@@ -40,4 +25,4 @@ returns : tie.Need-returns Inv-loop μ-loop
 returns c = (digit-last (c .before .before .args .n) (c .before .loop .rest) (c .before .loop .i) (c .before .loop .bytes) (c .before .loop .inv .4) (c .before .loop .inv .0) (omega (arith, c .before .loop .inv .1, c .before .loop .inv .2)) (c .if1 .taken), simp length-set (c .before .loop .inv .2))
 
 pub digits-of-spec : {M : Type 1} → statement M
-digits-of-spec = tie.close (tie.spec Inv-loop μ-loop loop-holds sub-i cast-bytes add-bytes array-write-bytes loop-less loop-again returns)
+digits-of-spec = tie.close (tie.spec Inv-loop μ-loop loop-holds (λ c. omega arith) (λ c. omega arith) (λ c. omega arith) (λ c. omega arith) (λ c. omega arith) loop-again returns)

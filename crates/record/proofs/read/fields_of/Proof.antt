@@ -1,9 +1,8 @@
--- Each arm is a row of the table of kinds; outside the table every field is out of range.
-use borrow.Author.Needs.{needs}
+-- Each arm is a row of the table of kinds, and the slice has that row's length; outside the table every field is out of range.
 use mathlib.Core.Path.{refl, ap, sym}
 use denote.Ref.{now}
 use Rattle.record.specs.Records.{fields}
-use Rattle.record.proofs.ByKind.{up, body-none, fields-at}
+use Rattle.record.proofs.ByKind.{up, body-none, fields-at, long-at}
 use Rattle.record.proofs.read.fields_of.Statement.{statement}
 use Rattle.record.proofs.read.fields_of.Tie as tie
 
@@ -44,4 +43,4 @@ returns-12 : tie.Need-returns-12
 returns-12 c = sym (ap (λ body. fields body (now (c .before .before .args .s))) (body-none _ (λ h. up (up (up (up (up (up (up (up (up (up (up h (c .match .rest .0 .0 .0 .0 .0 .0 .0 .0 .0 .0 .1)) (c .match .rest .0 .0 .0 .0 .0 .0 .0 .0 .0 .1)) (c .match .rest .0 .0 .0 .0 .0 .0 .0 .0 .1)) (c .match .rest .0 .0 .0 .0 .0 .0 .0 .1)) (c .match .rest .0 .0 .0 .0 .0 .0 .1)) (c .match .rest .0 .0 .0 .0 .0 .1)) (c .match .rest .0 .0 .0 .0 .1)) (c .match .rest .0 .0 .0 .1)) (c .match .rest .0 .0 .1)) (c .match .rest .0 .1)) (c .match .rest .1))))
 
 pub fields-of-spec : {M : Type 1} → statement M
-fields-of-spec = tie.close (tie.spec (λ c κs. search needs) (λ c κs. search needs) (λ c κs. search needs) (λ c κs. search needs) (λ c κs. search needs) (λ c κs. search needs) (λ c κs. search needs) (λ c κs. search needs) (λ c κs. search needs) (λ c κs. search needs) returns returns-2 returns-3 returns-4 returns-5 returns-6 returns-7 returns-8 returns-9 returns-10 returns-11 returns-12)
+fields-of-spec = tie.close (tie.spec (λ c κs. long-at (now (c .before .before .args .s)) 1 (c .match .keys1) (c .before .before .pre)) (λ c κs. long-at (now (c .before .before .args .s)) 2 (c .match .keys2) (c .before .before .pre)) (λ c κs. long-at (now (c .before .before .args .s)) 4 (c .match .keys4) (c .before .before .pre)) (λ c κs. long-at (now (c .before .before .args .s)) 5 (c .match .keys5) (c .before .before .pre)) (λ c κs. long-at (now (c .before .before .args .s)) 6 (c .match .keys6) (c .before .before .pre)) (λ c κs. long-at (now (c .before .before .args .s)) 7 (c .match .keys7) (c .before .before .pre)) (λ c κs. long-at (now (c .before .before .args .s)) 8 (c .match .keys8) (c .before .before .pre)) (λ c κs. long-at (now (c .before .before .args .s)) 9 (c .match .keys9) (c .before .before .pre)) (λ c κs. long-at (now (c .before .before .args .s)) 10 (c .match .keys10) (c .before .before .pre)) (λ c κs. long-at (now (c .before .before .args .s)) 11 (c .match .keys11) (c .before .before .pre)) returns returns-2 returns-3 returns-4 returns-5 returns-6 returns-7 returns-8 returns-9 returns-10 returns-11 returns-12)

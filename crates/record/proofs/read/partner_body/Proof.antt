@@ -1,4 +1,4 @@
--- x
+-- The partner follows the kind.
 use borrow.Author.Needs.{needs}
 use Rattle.record.proofs.read.partner_body.Statement.{statement}
 use Rattle.record.proofs.read.partner_body.Tie as tie

@@ -22,21 +22,6 @@ four c = sym (length-map (c .args .t2 .items) _) ∙ c .good .1 .0 .1 .1 .0 .1 .
 loop-holds : tie.Need-loop-holds Inv-loop μ-loop
 loop-holds c = (omega arith, refl)
 
-mul-action : tie.Need-mul-action Inv-loop μ-loop
-mul-action c = search needs
-
-element-copy-out-action : tie.Need-element-copy-out-action Inv-loop μ-loop
-element-copy-out-action c = omega arith
-
-action-requires : tie.Need-action-requires Inv-loop μ-loop
-action-requires c κs = search needs
-
-add-i : tie.Need-add-i Inv-loop μ-loop
-add-i c = omega arith
-
-loop-less : tie.Need-loop-less Inv-loop μ-loop
-loop-less c = omega arith
-
 loop-again : tie.Need-loop-again Inv-loop μ-loop
 loop-again c = (omega arith, c .before .before .before .before .loop .inv .1 ∙ pushes-action (c .before .before .before .before .loop .text) (c .before .before .before .before .before .args .t2 .items) (c .before .before .before .before .before .args .t2 .count) (c .before .before .before .before .loop .i) (c .before .before .before .if1 .left) (omega (arith, four (c .before .before .before .before .before))) ∙ ap (λ t. pushes t (blocks actionText (drop (c .before .before .before .before .loop .i + 1) (take (c .before .before .before .before .before .args .t2 .count) (c .before .before .before .before .before .args .t2 .items))))) (sym (c .action2 .ensures)))
 
@@ -49,4 +34,4 @@ unfolding pushes blocks
 returns-2 c = sym (c .before .before .loop .inv .1 ∙ ap (λ l. pushes (c .before .before .loop .text) (blocks actionText l)) (drop-of-length-le (take (c .before .before .before .args .t2 .count) (c .before .before .before .args .t2 .items)) {i = c .before .before .loop .i} (simp length-take (omega (arith, four (c .before .before .before))))))
 
 pub actions-spec : {M : Type 1} → statement M
-actions-spec = tie.close (tie.spec Inv-loop μ-loop loop-holds mul-action element-copy-out-action action-requires add-i loop-less loop-again returns returns-2)
+actions-spec = tie.close (tie.spec Inv-loop μ-loop loop-holds (λ c. search needs) (λ c. omega arith) (λ c κs. search needs) (λ c. omega arith) (λ c. omega arith) loop-again returns returns-2)

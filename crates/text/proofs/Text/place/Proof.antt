@@ -33,9 +33,6 @@ slice-write-buffer c = omega (arith, c .before .before .loop .inv .1)
 add-i : tie.Need-add-i Inv-loop μ-loop
 add-i c = omega (arith, c .before .before .before .before .pre)
 
-loop-less : tie.Need-loop-less Inv-loop μ-loop
-loop-less c = omega arith
-
 loop-again : tie.Need-loop-again Inv-loop μ-loop
 loop-again c = (omega arith, simp length-set (c .before .before .loop .inv .1), ap (λ l. set l (c .before .before .loop .i) (getD (c .before .before .before .before .args .t1 .bytes) (c .before .before .loop .i) 0)) (c .before .before .loop .inv .2) ∙ placed-more (c .before .before .before .before .args .t1 .bytes) (now (c .before .before .before .before .args .buffer)) (c .before .before .loop .i) (omega (arith, c .before .before .before .before .pre, all (c .before .before .before .before))) (omega arith))
 
@@ -46,4 +43,4 @@ returns-2 : tie.Need-returns-2 Inv-loop μ-loop
 returns-2 c = placed-all (c .before .before .before .args .t1 .bytes) (now (c .before .before .before .args .buffer)) (c .before .before .before .args .t1 .used) (omega (arith, c .before .before .before .pre, all (c .before .before .before))) (c .before .loop .i) _ (omega arith) (c .before .before .if1 .left) (c .before .loop .inv .2)
 
 pub place-spec : {M : Type 1} → statement M
-place-spec = tie.close (tie.spec Inv-loop μ-loop returns loop-holds element-copy-out-buffer slice-write-buffer add-i loop-less loop-again same-length returns-2)
+place-spec = tie.close (tie.spec Inv-loop μ-loop returns loop-holds element-copy-out-buffer slice-write-buffer add-i (λ c. omega arith) loop-again same-length returns-2)

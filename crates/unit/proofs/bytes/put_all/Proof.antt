@@ -30,9 +30,6 @@ loop-holds : tie.Need-loop-holds Inv-loop μ-loop
 unfolding blocks
 loop-holds c = (omega arith, refl, refl)
 
-mul-action : tie.Need-mul-action Inv-loop μ-loop
-mul-action c = search needs
-
 element-copy-out-action : tie.Need-element-copy-out-action Inv-loop μ-loop
 element-copy-out-action c = omega (arith, c .before .before .before .pre .0)
 
@@ -45,9 +42,6 @@ put-requires c κs = omega (arith, c .before .before .before .before .before .pr
 add-i : tie.Need-add-i Inv-loop μ-loop
 add-i c = omega (arith, c .before .before .before .before .before .before .before .before .pre .0)
 
-loop-less : tie.Need-loop-less Inv-loop μ-loop
-loop-less c = omega arith
-
 loop-again : tie.Need-loop-again Inv-loop μ-loop
 loop-again c = (omega arith, ap length (c .before .before .put .ensures) ∙ length-sets (c .before .before .before .before .before .before .loop .s) (actionSize * c .before .before .before .before .before .before .loop .i) (bytesOf (getD (c .before .before .before .before .before .before .before .before .args .t2 .items) (c .before .before .before .before .before .before .loop .i) noAction)) ∙ c .before .before .before .before .before .before .loop .inv .1, c .before .before .put .ensures ∙ ap (λ l. sets l (actionSize * c .before .before .before .before .before .before .loop .i) (bytesOf (getD (c .before .before .before .before .before .before .before .before .args .t2 .items) (c .before .before .before .before .before .before .loop .i) noAction))) (c .before .before .before .before .before .before .loop .inv .2) ∙ filled-more bytesOf actionSize (λ a. refl) 0 (c .before .before .before .before .before .before .before .before .args .t2 .items) (now (c .before .before .before .before .before .before .before .before .args .s)) (c .before .before .before .before .before .before .loop .i) (actionSize * c .before .before .before .before .before .before .loop .i) noAction (omega (arith, c .before .before .before .before .before .before .before .before .pre .0, four (c .before .before .before .before .before .before .before .before))) (omega arith) (omega (arith, c .before .before .before .before .before .before .before .before .pre .0, c .before .before .before .before .before .before .before .before .pre .1)) ∙ ap (FilledTo bytesOf 0 (c .before .before .before .before .before .before .before .before .args .t2 .items) (now (c .before .before .before .before .before .before .before .before .args .s)) (c .before .before .before .before .before .before .loop .i + 1)) (five-more (c .before .before .before .before .before .before .loop .i)))
 
@@ -58,4 +52,4 @@ returns : tie.Need-returns Inv-loop μ-loop
 returns c = c .before .loop .inv .2 ∙ written-end (c .before .before .before .args .t2 .items) (now (c .before .before .before .args .s)) (c .before .loop .i) (c .before .before .before .args .t2 .count) (omega arith) (omega (arith, c .before .before .before .pre .0, four (c .before .before .before)))
 
 pub put-all-spec : {M : Type 1} → statement M
-put-all-spec = tie.close (tie.spec Inv-loop μ-loop loop-holds mul-action element-copy-out-action mul-put put-requires add-i loop-less loop-again same-length returns)
+put-all-spec = tie.close (tie.spec Inv-loop μ-loop loop-holds (λ c. search needs) element-copy-out-action mul-put put-requires add-i (λ c. omega arith) loop-again same-length returns)

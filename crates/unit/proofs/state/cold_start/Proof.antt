@@ -1,7 +1,6 @@
 -- The limits are tested.
 use borrow.Author.Needs.{needs}
-use mathlib.Core.Path.{sym, ap, _∙_}
-use mathlib.Core.Bool.{cond, true, false}
+use mathlib.Core.Bool.{true, false}
 use Rattle.unit.proofs.Starts.{started-by}
 use Rattle.unit.proofs.state.cold_start.Statement.{statement}
 use Rattle.unit.proofs.state.cold_start.Tie as tie

@@ -1,6 +1,5 @@
 -- No action.
 use borrow.Author.Needs.{needs}
-use mathlib.Core.Path.{ap}
 use Rattle.unit.specs.Forms.{packed}
 use Rattle.unit.proofs.answer.Answer.refused.Statement.{statement}
 use Rattle.unit.proofs.answer.Answer.refused.Tie as tie

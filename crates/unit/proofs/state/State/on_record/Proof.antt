@@ -1,14 +1,13 @@
 -- The refusals in their order; then the step on values, its actions written.
 use borrow.Author.Needs.{needs}
-use mathlib.Core.Path.{sym, ap, _∙_}
-use native.Mathlib.Omega.{arith}
+use mathlib.Core.Path.{sym, _∙_}
 use denote.Ref.{now}
 use lib.ListN.{length, length-map}
 use Rattle.place.specs.Places.{tryLimit}
 use Rattle.record.specs.Refusals.{noRoom, notSound}
 use Rattle.unit.specs.Steps.{step}
 use Rattle.unit.proofs.Few.{step-few}
-use Rattle.unit.proofs.Bytewise.{on-room, on-unsound, on-reading, refused-pair, answered-few, answered-pair}
+use Rattle.unit.proofs.OnBytes.{on-room, on-unsound, on-reading, refused-pair, answered-few, answered-pair}
 use Rattle.unit.proofs.state.State.on_record.Statement.{statement}
 use Rattle.unit.proofs.state.State.on_record.Tie as tie
 

@@ -22,27 +22,6 @@ four c = sym (length-map (c .args .t1 .places) _) ∙ c .good .0 .1 .1 .1 .1 .1 
 loop-holds : tie.Need-loop-holds Inv-loop μ-loop
 loop-holds c = (omega arith, refl)
 
-mul-place : tie.Need-mul-place Inv-loop μ-loop
-mul-place c = search needs
-
-element-copy-out-place : tie.Need-element-copy-out-place Inv-loop μ-loop
-element-copy-out-place c = search needs
-
-is-sound-requires : tie.Need-is-sound-requires Inv-loop μ-loop
-is-sound-requires c κs = search needs
-
-absent-above-requires : tie.Need-absent-above-requires Inv-loop μ-loop
-absent-above-requires c κs = omega arith
-
-and-requires : tie.Need-and-requires Inv-loop μ-loop
-and-requires c κs = search needs
-
-add-i : tie.Need-add-i Inv-loop μ-loop
-add-i c = omega arith
-
-loop-less : tie.Need-loop-less Inv-loop μ-loop
-loop-less c = omega arith
-
 loop-again : tie.Need-loop-again Inv-loop μ-loop
 loop-again c = (omega arith, ok-more tryLimit (c .before .before .before .before .before .before .before .args .t1 .places) _ (c .before .before .before .before .before .before .loop .inv .1) _ _ _ (c .before .and .ensures) (c .before .before .before .is-sound .ensures) (c .before .before .absent-above .ensures) (omega (arith, four (c .before .before .before .before .before .before .before))) (c .if2 .taken))
 
@@ -53,4 +32,4 @@ returns-2 : tie.Need-returns-2 Inv-loop μ-loop
 returns-2 c = ok-bad tryLimit (c .before .before .before .before .before .before .before .args .t1 .places) _ (c .before .before .before .before .before .before .loop .inv .1) _ _ _ (c .before .and .ensures) (c .before .before .before .is-sound .ensures) (c .before .before .absent-above .ensures) (omega (arith, four (c .before .before .before .before .before .before .before))) (c .if2 .left)
 
 pub places-ok-spec : {M : Type 1} → statement M
-places-ok-spec = tie.close (tie.spec Inv-loop μ-loop loop-holds mul-place element-copy-out-place is-sound-requires absent-above-requires and-requires add-i loop-less loop-again returns returns-2)
+places-ok-spec = tie.close (tie.spec Inv-loop μ-loop loop-holds (λ c. search needs) (λ c. search needs) (λ c κs. search needs) (λ c κs. omega arith) (λ c κs. search needs) (λ c. omega arith) (λ c. omega arith) loop-again returns returns-2)

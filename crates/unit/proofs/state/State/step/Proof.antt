@@ -1,40 +1,21 @@
--- Each event by its own rule.
+-- What the event changes is carried out.
 use borrow.Author.Needs.{needs}
 use mathlib.Core.Path.{sym, ap, _∙_}
+use lib.ListN.{length-map}
 use Rattle.place.specs.Places.{tryLimit}
-use Rattle.record.specs.declared.event.Event.the-variants.{Hole}
-use Rattle.unit.specs.Steps.{step}
 use Rattle.unit.specs.Forms.{packed}
+use Rattle.unit.proofs.Settling.{carried-few, packed-unswept}
 use Rattle.unit.proofs.state.State.step.Statement.{statement}
 use Rattle.unit.proofs.state.State.step.Tie as tie
 
+sweep-and-settle-requires : tie.Need-sweep-and-settle-requires
+sweep-and-settle-requires c κs = carried-few (c .before .before .before .before .args .self) (c .before .before .before .change .result) tryLimit (sym (length-map (c .before .before .before .before .args .self .places) _) ∙ c .before .before .before .before .good .0 .1 .1 .1 .1 .1 .0 .1 .0 .1) (c .before .before .before .before .args .event) (c .before .before .before .change .ensures)
+
 returns : tie.Need-returns
-returns c = c .level .ensures ∙ ap (λ e. packed (step tryLimit (c .before .before .before .before .args .self) e)) (sym (c .before .before .event .given .1))
+returns c = c .sweep-and-settle .ensures ∙ ap packed (c .before .before .before .before .change .ensures)
 
 returns-2 : tie.Need-returns-2
-returns-2 c = c .mission .ensures ∙ ap (λ e. packed (step tryLimit (c .before .before .before .before .args .self) e)) (sym (c .before .before .event2 .given .1))
-
-returns-3 : tie.Need-returns-3
-returns-3 c = c .mode .ensures ∙ ap (λ e. packed (step tryLimit (c .before .before .before .args .self) e)) (sym (c .before .enum-told .given .1))
-
-returns-4 : tie.Need-returns-4
-returns-4 c = c .enter-hole .ensures ∙ ap (λ e. packed (step tryLimit (c .before .before .before .before .before .args .self) e)) (sym (c .before .before .before .event3 .given .1 ∙ ap Hole (c .before .if1 .taken)))
-
-returns-5 : tie.Need-returns-5
-returns-5 c = c .leave-hole .ensures ∙ ap (λ e. packed (step tryLimit (c .before .before .before .before .before .args .self) e)) (sym (c .before .before .before .event3 .given .1 ∙ ap Hole (c .before .if1 .left)))
-
-returns-6 : tie.Need-returns-6
-returns-6 c = c .order .ensures ∙ ap (λ e. packed (step tryLimit (c .before .before .before .before .args .self) e)) (sym (c .before .before .event4 .given .1))
-
-returns-7 : tie.Need-returns-7
-unfolding step
-returns-7 c = c .sweep .ensures ∙ ap (λ e. packed (step tryLimit (c .before .before .before .args .self) e)) (sym (c .before .enum-told2 .given .1))
-
-returns-8 : tie.Need-returns-8
-returns-8 c = c .call .ensures ∙ ap (λ e. packed (step tryLimit (c .before .before .before .before .args .self) e)) (sym (c .before .before .event5 .given .1))
-
-returns-9 : tie.Need-returns-9
-returns-9 c = c .named .ensures ∙ ap (λ e. packed (step tryLimit (c .before .before .before .before .args .self) e)) (sym (c .before .before .event6 .given .1))
+returns-2 c = rw (c .send .ensures, c .before .none .ensures, c .before .before .settle .ensures) (packed-unswept (c .before .before .before .before .before .before .before .args .self) (c .before .before .before .before .before .before .change .result) (carried-few (c .before .before .before .before .before .before .before .args .self) (c .before .before .before .before .before .before .change .result) tryLimit (sym (length-map (c .before .before .before .before .before .before .before .args .self .places) _) ∙ c .before .before .before .before .before .before .before .good .0 .1 .1 .1 .1 .1 .0 .1 .0 .1) (c .before .before .before .before .before .before .before .args .event) (c .before .before .before .before .before .before .change .ensures)) (sym (c .before .before .before .before .closes .ensures) ∙ c .before .before .before .if1 .left)) ∙ ap packed (c .before .before .before .before .before .before .change .ensures)
 
 pub step-spec : {M : Type 1} → statement M
-step-spec = tie.close (tie.spec (λ c. search needs) (λ c κs. search needs) (λ c. search needs) (λ c κs. search needs) (λ c. search needs) (λ c κs. search needs) (λ c. search needs) (λ c κs. search needs) (λ c κs. search needs) (λ c. search needs) (λ c κs. search needs) (λ c. search needs) (λ c κs. search needs) (λ c. search needs) (λ c κs. search needs) (λ c. search needs) (λ c κs. search needs) returns returns-2 returns-3 returns-4 returns-5 returns-6 returns-7 returns-8 returns-9)
+step-spec = tie.close (tie.spec (λ c κs. search needs) (λ c κs. search needs) sweep-and-settle-requires returns (λ c κs. search needs) (λ c κs. search needs) (λ c κs. search needs) returns-2)

@@ -6,8 +6,8 @@ use Prim.Native.Nat.{_-_, _≤_}
 use native.Mathlib.Omega.{arith}
 use lib.ListN.{length, length-map, take, drop}
 use Rattle.unit.specs.Steps.{shut, shutting, withPlaces}
-use Rattle.unit.specs.Forms.{listed, packed}
-use Rattle.unit.proofs.Answers.{packed-done}
+use Rattle.unit.specs.Forms.{listed}
+use Rattle.unit.proofs.Rules.{packed-done}
 use Rattle.unit.proofs.Sweeps.{sweep-places, sweep-actions, swept-all, sent-all}
 use Rattle.unit.proofs.state.State.sweep.Statement.{statement}
 use Rattle.unit.proofs.state.State.sweep.Tie as tie
@@ -21,42 +21,9 @@ abbrev μ-loop : tie.MeasureT-loop
 four : (c : tie.Start Inv-loop μ-loop) → length (c .args .self .places) ≡ 4
 four c = sym (length-map (c .args .self .places) _) ∙ c .good .0 .1 .1 .1 .1 .1 .0 .1 .0 .1
 
-none-requires : tie.Need-none-requires Inv-loop μ-loop
-none-requires c κs = search needs
-
 loop-holds : tie.Need-loop-holds Inv-loop μ-loop
 unfolding shut shutting
 loop-holds c = (omega arith, refl, c .none .ensures)
-
-mul-place : tie.Need-mul-place Inv-loop μ-loop
-mul-place c = search needs
-
-array-copy-out-place : tie.Need-array-copy-out-place Inv-loop μ-loop
-array-copy-out-place c = omega arith
-
-shut-requires : tie.Need-shut-requires Inv-loop μ-loop
-shut-requires c κs = search needs
-
-partner-requires : tie.Need-partner-requires Inv-loop μ-loop
-partner-requires c κs = search needs
-
-send-requires : tie.Need-send-requires Inv-loop μ-loop
-send-requires c κs = search needs
-
-after-requires : tie.Need-after-requires Inv-loop μ-loop
-after-requires c κs = search needs
-
-mul-places : tie.Need-mul-places Inv-loop μ-loop
-mul-places c = search needs
-
-array-set-from-places : tie.Need-array-set-from-places Inv-loop μ-loop
-array-set-from-places c = omega arith
-
-add-i : tie.Need-add-i Inv-loop μ-loop
-add-i c = omega arith
-
-loop-less : tie.Need-loop-less Inv-loop μ-loop
-loop-less c = omega arith
 
 loop-again : tie.Need-loop-again Inv-loop μ-loop
 loop-again c = (omega arith, sweep-places (c .before .before .before .before .before .before .before .before .before .args .which) (c .before .before .before .before .before .before .before .before .before .args .self .places) _ (omega (arith, four (c .before .before .before .before .before .before .before .before .before))) _ (c .before .before .before .before .before .before .loop .inv .1) _ _ (c .before .before .before .shut .ensures) (c .after .ensures), sweep-actions (c .before .before .before .before .before .before .before .before .before .args .which) (c .before .before .before .before .before .before .before .before .before .args .self .places) _ (omega (arith, four (c .before .before .before .before .before .before .before .before .before))) _ (c .before .before .before .before .before .before .loop .inv .1) _ _ _ _ (omega (arith, four (c .before .before .before .before .before .before .before .before .before))) (c .before .before .before .before .before .before .loop .inv .2) (c .before .before .partner .ensures) (c .before .before .before .shut .ensures) (c .before .send .ensures))
@@ -68,4 +35,4 @@ returns c =
     (c .before .loop .inv .2 ∙ sent-all (c .before .before .before .before .args .which) (c .before .before .before .before .args .self .places) (c .before .loop .i) (omega (arith, four (c .before .before .before .before))))
 
 pub sweep-spec : {M : Type 1} → statement M
-sweep-spec = tie.close (tie.spec Inv-loop μ-loop none-requires loop-holds mul-place array-copy-out-place shut-requires partner-requires send-requires after-requires mul-places array-set-from-places add-i loop-less loop-again returns)
+sweep-spec = tie.close (tie.spec Inv-loop μ-loop (λ c κs. search needs) loop-holds (λ c. search needs) (λ c. omega arith) (λ c κs. search needs) (λ c κs. search needs) (λ c κs. search needs) (λ c κs. search needs) (λ c. search needs) (λ c. omega arith) (λ c. omega arith) (λ c. omega arith) loop-again returns)

@@ -1,13 +1,12 @@
 -- Each kind of step by what the code's tests and search showed, and the array of actions against the list.
 -- Proves: packed-done; hole-is, mission-is, order-is, call-is, named-is, turned-is; push-listed, send-listed.
-use mathlib.Core.Path.{_≡_, refl, sym, ap, ap₂, _∙_}
+use mathlib.Core.Path.{_≡_, sym, ap, ap₂, _∙_}
 use mathlib.Core.Bool.{Bool, cond}
 use mathlib.Core.List.{List, [], _∷_, _++_, map, append-nil, append-assoc}
-use Prim.Native.Nat.{ℕ, suc, _+_, _≤_, _<_}
-use native.Mathlib.Numerals.{add-one}
+use Prim.Native.Nat.{ℕ, _+_, _≤_, _<_}
 use native.Mathlib.Omega.{arith}
 use lib.Dec.{eqb}
-use lib.ListN.{length, take, set, replicate, length-append}
+use lib.ListN.{length, length-append}
 use borrow.Author.Tests.{lt-ltb}
 use Rattle.record.specs.Partners.{isRbc}
 use Rattle.record.specs.Records.{missionEnded}
@@ -21,7 +20,7 @@ use Rattle.place.specs.Table.{takes}
 use Rattle.place.specs.declared.turn.Turn.{Turn}
 use Rattle.place.specs.declared.turn.Due.the-variants.{Every}
 use Rattle.unit.specs.States.{seek}
-use Rattle.unit.specs.Steps.{Outcome, refused, done, act, withMarks, withMission, markHole, holeTaken, inForce, sweep, orderedAt, calledAt, turnedAt, turned, namedAt, step}
+use Rattle.unit.specs.Steps.{refused, done, act, withMarks, withMission, markHole, holeTaken, inForce, sweep, orderedAt, calledAt, turnedAt, turned, namedAt, step}
 use Rattle.unit.specs.Forms.{mostActions, noAction, listed, pushed, pushAll, packed}
 use Rattle.unit.specs.declared.state.State.{State}
 use Rattle.unit.specs.declared.state.Found.{Found}

@@ -1,0 +1,62 @@
+-- The tries start afresh in another phase.
+-- Defines: firstTries, fresh. Proves: turn-fresh.
+use mathlib.Core.Path.{_≡_, refl}
+use mathlib.Core.Bool.{Bool, true, cond}
+use Prim.Native.Nat.{ℕ, _+_}
+use lib.Dec.{eqb, ltb}
+use borrow.Author.Tests.{eq-eqb}
+use Rattle.record.specs.declared.event.PartnerEvent.{PartnerEvent}
+use Rattle.record.proofs.Tests.{cond-holds, All}
+use Rattle.place.specs.Places.{phaseNumber, tries}
+use Rattle.place.specs.Table.{table, oneMore, again, play, turn}
+use Rattle.place.specs.declared.phase.Phase.{Phase}
+use Rattle.place.specs.declared.phase.Phase.the-variants.{Connecting, Contacting, Open, Lost, Ending}
+use Rattle.place.specs.declared.turn.Limits.{Limits}
+use Rattle.place.specs.declared.turn.Turn.{Turn}
+use Rattle.place.specs.declared.turn.Turn.the-variants.{Released, Sends}
+use Rattle.place.proofs.ByRow.{onNext, by-row, judged-case}
+
+-- the tries at which a phase is entered
+abbrev pub firstTries : Phase → ℕ
+firstTries (Connecting t) = 1
+firstTries (Contacting t) = 1
+firstTries Open = 0
+firstTries (Lost t) = 1
+firstTries (Ending t) = 1
+
+-- one more try in the same phase, or the first of another
+abbrev pub fresh : Phase → Phase → Bool
+fresh ph q = cond (eqb (phaseNumber ph) (phaseNumber q)) (eqb (tries q) (tries ph + 1)) (eqb (tries q) (firstTries q))
+
+abbrev NextFresh : Phase → Turn → Type 0
+NextFresh ph = onNext (λ q. fresh ph q ≡ true)
+
+again-fresh : (n number : ℕ) (ph : Phase) → fresh ph (oneMore ph) ≡ true → NextFresh ph (again n number ph)
+again-fresh n number ph h = cond-holds (NextFresh ph) (ltb (tries ph) n) (Sends number (oneMore ph)) Released h tt
+
+row-fresh : (n : ℕ) (l : Limits) (ph : Phase) (v : ℕ) → All (λ c. NextFresh ph (play n l ph v c)) (table ph)
+row-fresh n l (Connecting t) v =
+    (tt, (refl, (tt, (again-fresh n 21 (Connecting t) (eq-eqb (t + 1) (t + 1) refl), (tt, (tt, tt))))))
+row-fresh n l (Contacting t) v = (
+  tt,
+  (
+    tt,
+    (
+      tt,
+      (
+        again-fresh n 155 (Contacting t) (eq-eqb (t + 1) (t + 1) refl),
+        (judged-case (NextFresh (Contacting t)) l v refl refl, (tt, tt)),
+      ),
+    ),
+  ),
+)
+row-fresh n l Open v = (refl, (tt, (refl, (tt, (tt, (tt, tt))))))
+row-fresh n l (Lost t) v =
+    (tt, (refl, (tt, (again-fresh n 21 (Lost t) (eq-eqb (t + 1) (t + 1) refl), (tt, (tt, tt))))))
+row-fresh n l (Ending t) v =
+    (tt, (tt, (tt, (again-fresh n 156 (Ending t) (eq-eqb (t + 1) (t + 1) refl), (tt, (tt, tt))))))
+
+-- no turn carries the old phase's tries into another phase
+-- promise
+pub turn-fresh : (n : ℕ) (l : Limits) (ph : Phase) (e : PartnerEvent) → onNext (λ q. fresh ph q ≡ true) (turn n l ph e)
+turn-fresh n l = by-row NextFresh n l (row-fresh n l) (λ ph. tt)

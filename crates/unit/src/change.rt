@@ -1,0 +1,302 @@
+// What each event changes, read from a state; carrying a change out is the step (see `carried` in specs/).
+ghost use mathlib.Core.Path.{_≡_};
+ghost use Prim.Native.Nat.{_<_};
+ghost use mathlib.Core.Bool.{true, false};
+ghost use mathlib.Core.List.{[], map};
+ghost use lib.ListN.{getD, set};
+ghost use Rattle.place.specs.Places.{tryLimit, vacant};
+ghost use Rattle.place.specs.Table.{numbers, placeTurn};
+ghost use Rattle.unit.specs.Steps.{refused, done, act, withTrain, withMarks, withPlaces, sweep, takenIn, turned, step};
+ghost use Rattle.place.specs.declared.turn.Due.the-variants.{Every};
+ghost use Rattle.unit.specs.Forms.{noted, carried};
+use crate::order::displaced;
+use crate::order::in_force;
+use crate::order::spend;
+use crate::state::Found;
+use crate::state::MISSION_ENDED;
+use crate::state::Marks;
+use crate::state::PLACES;
+use crate::state::State;
+use crate::state::Train;
+use place::phase::FIRST_TRY;
+use place::phase::Phase;
+use place::seat::Direction;
+use place::seat::Place;
+use place::turn::Due;
+use place::turn::ESTABLISHED;
+use place::turn::REQUEST;
+use place::turn::Turn;
+use record::event::Cause;
+use record::event::Event;
+use record::event::PartnerEvent;
+use record::partner::Partner;
+use record::refusal::ACCEPTED;
+use record::refusal::ALL_TAKEN;
+use record::refusal::CALL_FROM_RIU;
+use record::refusal::HAS_NONE;
+use record::refusal::HAS_PLACE;
+use record::refusal::NOT_IN_FORCE;
+use record::refusal::NOT_TAKEN;
+use record::test::or;
+
+// A step before it is carried out: 0 or the number of the refusal; the train and the marks after it; which places are closed;
+// then the place that is set, if its number is one of the four, and the partner and turn whose actions are sent last.
+pub struct Change {
+    pub code: u8,
+    pub train: Train,
+    pub marks: Marks,
+    pub which: Due,
+    pub at: usize,
+    pub place: Place,
+    pub partner: Partner,
+    pub turn: Turn,
+}
+
+impl Change {
+    // A change that sets no place.
+    fn noted(code: u8, train: Train, marks: Marks, which: Due) -> Change
+        ensures { λ r. ⌜ r ≡ noted code train marks which ⌝ }
+    {
+        Change {
+            code,
+            train,
+            marks,
+            which,
+            at: PLACES,
+            place: Place::free(),
+            partner: Partner {
+                kind: 0,
+                high: 0,
+                middle: 0,
+                low: 0,
+            },
+            turn: Turn::Refused,
+        }
+    }
+}
+
+impl State {
+    // No change, and the number of the refusal.
+    fn refuse(self, code: u8) -> Change
+        ensures { λ r. ⌜ carried self r ≡ refused code self ⌝ }
+    {
+        let train = self.train;
+        let marks = self.marks;
+        Change::noted(code, train, marks, Due::Nothing)
+    }
+
+    // Another train and other marks.
+    fn note(self, train: Train, marks: Marks) -> Change
+        ensures { λ r. ⌜ carried self r ≡ done (withMarks (withTrain self train) marks) [] ⌝ }
+    {
+        Change::noted(ACCEPTED, train, marks, Due::Nothing)
+    }
+
+    // Another train, and every place closed.
+    fn close_all(self, train: Train) -> Change
+        ensures { λ r. ⌜ carried self r ≡ sweep Every (withTrain self train) ⌝ }
+    {
+        let marks = self.marks;
+        Change::noted(ACCEPTED, train, marks, Due::Every)
+    }
+
+    fn level(self, level: u32, manual: bool) -> Change
+        ensures { λ r. ⌜ carried self r ≡ step tryLimit self (Event.Level level manual) ⌝ }
+    {
+        let mut train = self.train;
+        let mut marks = self.marks;
+        let marked = or(marks.manual, manual);
+        train.level = level;
+        marks.manual = marked;
+        self.note(train, marks)
+    }
+
+    fn mode(self) -> Change
+        ensures { λ r. ⌜ carried self r ≡ step tryLimit self Event.Mode ⌝ }
+    {
+        let train = self.train;
+        let mut marks = self.marks;
+        marks.mode = true;
+        self.note(train, marks)
+    }
+
+    fn enter_hole(self) -> Change
+        ensures { λ r. ⌜ carried self r ≡ step tryLimit self (Event.Hole true) ⌝ }
+    {
+        let train = self.train;
+        let mut marks = self.marks;
+        if marks.inside {
+            return self.refuse(NOT_TAKEN);
+        }
+        marks.inside = true;
+        marks.end = false;
+        self.note(train, marks)
+    }
+
+    fn leave_hole(self) -> Change
+        ensures { λ r. ⌜ carried self r ≡ step tryLimit self (Event.Hole false) ⌝ }
+    {
+        let train = self.train;
+        let mut marks = self.marks;
+        if marks.inside {
+            marks.inside = false;
+            marks.end = true;
+            return self.note(train, marks);
+        }
+        self.refuse(NOT_TAKEN)
+    }
+
+    fn mission(self, mission: u32) -> Change
+        ensures { λ r. ⌜ carried self r ≡ step tryLimit self (Event.Mission mission) ⌝ }
+    {
+        let mut train = self.train;
+        let marks = self.marks;
+        train.mission = mission;
+        if mission == MISSION_ENDED {
+            self.close_all(train)
+        } else {
+            self.note(train, marks)
+        }
+    }
+
+    fn end_all(self) -> Change
+        ensures { λ r. ⌜ carried self r ≡ step tryLimit self Event.EndAll ⌝ }
+    {
+        let train = self.train;
+        self.close_all(train)
+    }
+
+    // The partner takes this place after the closings.
+    fn take_in(self, marks: Marks, which: Due, at: usize, partner: Partner) -> Change
+        ensures { λ r. ⌜ carried self r ≡ takenIn (sweep which (withMarks self marks)) at partner ⌝ }
+    {
+        let train = self.train;
+        let phase = Phase::Connecting(FIRST_TRY);
+        Change {
+            code: ACCEPTED,
+            train,
+            marks,
+            which,
+            at,
+            place: Place::held(Direction::Outgoing, phase, partner),
+            partner,
+            turn: Turn::Sends {
+                number: REQUEST,
+                phase,
+            },
+        }
+    }
+
+    fn order(self, partner: Partner, accepting: bool, cause: Cause) -> Change
+        ensures { λ r. ⌜ carried self r ≡ step tryLimit self (Event.Order partner accepting cause) ⌝ }
+    {
+        let train = self.train;
+        let marks = self.marks;
+        if in_force(cause, train, marks) {
+            match self.seek(partner) {
+                Found::At(_) => self.refuse(HAS_PLACE),
+                Found::Vacant(at) => {
+                    self.take_in(
+                        spend(cause, marks),
+                        displaced(partner, accepting),
+                        at,
+                        partner,
+                    )
+                }
+                Found::Full => self.refuse(ALL_TAKEN),
+            }
+        } else {
+            self.refuse(NOT_IN_FORCE)
+        }
+    }
+
+    // Another place at this number, and the actions of a turn for its partner.
+    fn set_place(self, at: usize, place: Place, partner: Partner, turn: Turn) -> Change
+        ensures { λ r. ⌜ carried self r ≡ done (withPlaces self (set (self .places) at place)) (map (act partner) (numbers turn)) ⌝ }
+    {
+        let train = self.train;
+        let marks = self.marks;
+        Change {
+            code: ACCEPTED,
+            train,
+            marks,
+            which: Due::Nothing,
+            at,
+            place,
+            partner,
+            turn,
+        }
+    }
+
+    fn call(self, partner: Partner) -> Change
+        ensures { λ r. ⌜ carried self r ≡ step tryLimit self (Event.Call partner) ⌝ }
+    {
+        if partner.is_rbc() {
+            match self.seek(partner) {
+                Found::At(_) => self.refuse(HAS_PLACE),
+                Found::Vacant(at) => {
+                    let place = Place::held(Direction::Incoming, Phase::Open, partner);
+                    let turn = Turn::Sends {
+                        number: ESTABLISHED,
+                        phase: Phase::Open,
+                    };
+                    self.set_place(at, place, partner, turn)
+                }
+                Found::Full => self.refuse(ALL_TAKEN),
+            }
+        } else {
+            self.refuse(CALL_FROM_RIU)
+        }
+    }
+
+    // What an event that names this partner makes of its place.
+    fn turn(self, at: usize, partner: Partner, event: PartnerEvent) -> Change
+        requires { ⌜ at < 4 ⌝ }
+        ensures { λ r. ⌜ carried self r ≡ turned self at partner (placeTurn tryLimit (self .limits) (getD (self .places) at vacant) event) ⌝ }
+    {
+        let limits = self.limits;
+        let place = self.places[at];
+        let turn = place.turn(event, limits);
+        if turn.is_taken() {
+            self.set_place(at, place.after(turn), partner, turn)
+        } else {
+            self.refuse(NOT_TAKEN)
+        }
+    }
+
+    fn named(self, partner: Partner, event: PartnerEvent) -> Change
+        ensures { λ r. ⌜ carried self r ≡ step tryLimit self (Event.Named partner event) ⌝ }
+    {
+        match self.seek(partner) {
+            Found::At(at) => self.turn(at, partner, event),
+            Found::Vacant(_) => self.refuse(HAS_NONE),
+            Found::Full => self.refuse(HAS_NONE),
+        }
+    }
+
+    // What an event changes.
+    pub(crate) fn change(self, event: Event) -> Change
+        ensures { λ r. ⌜ carried self r ≡ step tryLimit self event ⌝ }
+    {
+        match event {
+            Event::Level { level, manual } => self.level(level, manual),
+            Event::Mission { mission } => self.mission(mission),
+            Event::Mode => self.mode(),
+            Event::Hole { entered } => {
+                if entered {
+                    self.enter_hole()
+                } else {
+                    self.leave_hole()
+                }
+            }
+            Event::Order {
+                partner,
+                accepting,
+                cause,
+            } => self.order(partner, accepting, cause),
+            Event::EndAll => self.end_all(),
+            Event::Call { partner } => self.call(partner),
+            Event::Named { partner, event } => self.named(partner, event),
+        }
+    }
+}
