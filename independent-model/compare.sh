@@ -11,7 +11,7 @@ bad=0
 i=0
 while [ "$i" -lt "$count" ]; do
     ./random_log $((seed + i)) >"$t/log"
-    ../target/bin/sheet <"$t/log" >"$t/proved"
+    ../run-program --built sheet <"$t/log" >"$t/proved"
     ./sheet_model <"$t/log" >"$t/model"
     cmp -s "$t/proved" "$t/model" || { echo "seed $((seed + i)): the sheets differ"; bad=$((bad + 1)); }
     tail -n 1 "$t/model" | cut -d ' ' -f 1,2 >>"$t/ends"

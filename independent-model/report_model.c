@@ -11,13 +11,13 @@ static void print_steps(size_t length)
 {
     State s;
     cold_start(&s, 1, 2);
+    uint8_t actions[ACTION_BUFFER] = {0};      /* one buffer for all records */
     unsigned read = 0, refused = 0, sent = 0;
     size_t at = 0;
     while (at < length && input[at] != 0 && input[at] <= KIND_LAST) {
         const size_t n = record_length[input[at]];
         if (length - at < n)
             break;
-        uint8_t actions[ACTION_BUFFER] = {0};
         const StepResult r = step(&s, input + at, n, actions, sizeof actions);
         read++;
         refused += r.code != 0;
@@ -25,6 +25,7 @@ static void print_steps(size_t length)
         at += n;
     }
     printf("read %08x refused %08x actions %08x\n", read, refused, sent);
+    fwrite(actions, 1, sizeof actions, stdout);
 }
 
 static void print_run(size_t length, bool once)
