@@ -1,6 +1,7 @@
 -- The account of a balanced scale: the actions of a step that count, and the places after it, against the places before it and what the event brings.
 -- It holds from every state, sound or not.
--- Defines: total, brought, Account, received. Proves: step-account, record-account, history-account.
+-- Defines: total, brought, Account, ofMeant, received.
+-- Proves: step-account, record-account, history-account.
 use mathlib.Core.Path.{_≡_, refl, ap}
 use mathlib.Core.Bool.{Bool, true, false, cond, _&&_}
 use mathlib.Core.List.{List, [], _∷_}

@@ -1,5 +1,6 @@
 -- An account either holds to the last action or bounds from above: one law of accounts serves both.
--- Defines: Sense, Balance. Proves: level, stored, joined, followed, opened, moved.
+-- Defines: Sense, Balance.
+-- Proves: level, stored, joined, followed, opened, moved.
 use mathlib.Core.Path.{_≡_}
 use Prim.Native.Nat.{ℕ, _+_, _≤_}
 use native.Mathlib.Omega.{arith}

@@ -1,6 +1,7 @@
 -- Demand 3, the bound: so many actions for each accepted order, call and loss, and no more.
 -- Each held place has a worth, the most actions that it can still cause with no further order, call or loss accepted.
--- Defines: worth, worths. Proves: worths-balanced; bound-from, bound, bound-of; demand-bound, demand-bound-of.
+-- Defines: worth, worths.
+-- Proves: worths-balanced, bound-from, bound, bound-of, demand-bound, demand-bound-of.
 use mathlib.Core.Path.{_≡_, refl}
 use mathlib.Core.Bool.{true}
 use mathlib.Core.List.{List, [], _∷_}

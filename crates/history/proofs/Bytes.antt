@@ -1,5 +1,6 @@
 -- The bytes by which demand 3 counts a record tell the event that it reads as: kind 5 is an order, 38 of kind 11 a call, kind 9 a loss.
--- Defines: isOrderEvent, isCallEvent, isLossEvent, Tells. Proves: reading-tells, unread.
+-- Defines: isOrderEvent, isCallEvent, isLost, isLossEvent, TellsEvent, Tells, Unread.
+-- Proves: reading-tells, unread.
 use mathlib.Core.Path.{_≡_, refl, ap, _∙_}
 use mathlib.Core.Bool.{Bool, true, false, cond}
 use mathlib.Core.List.{List, [], _∷_}

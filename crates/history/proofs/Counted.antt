@@ -1,5 +1,6 @@
 -- What a history brings, counted: so much for each accepted order, so much for each accepted call, so much for each accepted loss.
--- Defines: rated, among, Whose. Proves: summed-same, count-same, summed-rates; whose-any, whose-one, and-true; rated-account.
+-- Defines: rated, among, Whose.
+-- Proves: summed-same, count-same, summed-rates, whose-any, whose-one, and-true, rated-account.
 use mathlib.Core.Path.{_≡_, refl, sym, ap, _∙_}
 use mathlib.Core.Bool.{Bool, true, false, cond, _&&_}
 use mathlib.Core.List.{List, [], _∷_}

@@ -1,5 +1,6 @@
 -- Weights that fall with each try: a place weighs what its phase weighs at its last try, and one more for each try before that.
--- Defines: Numbers, falling, fallings, Fair. Proves: falling-balanced.
+-- Defines: Numbers, falling, fallings, Fair.
+-- Proves: falling-balanced.
 use mathlib.Core.Bool.{true}
 use mathlib.Core.List.{[], _∷_}
 use Prim.Native.Nat.{ℕ, _+_, _-_, _≤_}

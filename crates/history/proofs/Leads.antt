@@ -1,5 +1,6 @@
 -- Where a history leads and what it counts, put together from its parts.
--- Defines: Leads. Proves: after-append, summed-append; stays, begins, goes-on, counted-as, again-and-again.
+-- Defines: Leads.
+-- Proves: after-append, summed-append, stays, begins, goes-on, counted-as, again-and-again.
 use mathlib.Core.Path.{_≡_, refl, ap, ap₂, _∙_}
 use mathlib.Core.List.{List, [], _∷_, _++_}
 use Prim.Native.Nat.{ℕ, zero, suc, _+_, _*_}

@@ -1,6 +1,7 @@
 -- What is left to a partner: the most timeouts that its place can still take, and one more than the limit of tries while it is Open.
 -- So a partner to whom no more than the limit is left waits, and each timeout that names it takes one away.
--- Defines: left, lefts, leftTo. Proves: lefts-balanced; held-left, none-left, waiting-left.
+-- Defines: left, lefts, leftTo.
+-- Proves: lefts-balanced, held-left, none-left, waiting-left.
 use mathlib.Core.Path.{_≡_, refl}
 use mathlib.Core.Bool.{Bool, true, false, cond, _&&_, _||_}
 use mathlib.Core.List.{List, [], _∷_}

@@ -1,5 +1,5 @@
 -- Demand 3: the bounds are met, by equality, for every limit of tries and every count of orders, calls and losses that a history can have.
--- Proves: reached, demand-reached; p10-records, one-each, one-each-to-nine; not-sooner.
+-- Proves: reached, demand-reached, p10-records, one-each, one-each-to-nine, not-sooner.
 use mathlib.Core.Path.{_≡_, refl}
 use mathlib.Core.Logic.{_⊎_, inl, inr}
 use mathlib.Core.Bool.{true}

@@ -1,5 +1,6 @@
 -- A law of every row of a table is one law at every number.
--- Defines: Numbered, Beside. Proves: numbered-at, beside-at.
+-- Defines: Numbered, Beside.
+-- Proves: _▹_, numbered-at, beside-at.
 use mathlib.Core.Path.{subst}
 use mathlib.Core.List.{List, [], _∷_}
 use Prim.Native.Nat.{ℕ, zero, suc, _+_}

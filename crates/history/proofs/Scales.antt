@@ -1,7 +1,7 @@
 -- A scale: what a held place weighs by its phase, which actions count, and what an accepted event brings.
 -- A balanced scale is one that every closing and every cell of the phase table keeps to; the partner plays no part in that.
--- Defines: Scale, Turned, Balanced, weightOf, counted. Proves: count-append, nothing, looked-at; place-account, held-account, shut-account;
--- turns-by-row, again-turned.
+-- Defines: Scale, sent, next, Turned, brings, Balanced, weightIn, weightOf, counted.
+-- Proves: count-append, nothing, looked-at, place-account, held-account, shut-account, turns-by-row, again-turned.
 use mathlib.Core.Path.{_≡_, refl, sym, ap, _∙_}
 use mathlib.Core.Bool.{Bool, true, false, cond, _&&_}
 use mathlib.Core.List.{List, [], _∷_, _++_, map}

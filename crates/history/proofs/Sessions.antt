@@ -1,5 +1,5 @@
 -- One partner's session from its first action to its release, with as many actions as there can be.
--- Proves: calling-leads, ordering-leads, connecting-holds.
+-- Proves: calling-leads, connecting-holds, ordering-leads.
 use mathlib.Core.Path.{_≡_, refl, ap, subst, _∙_}
 use mathlib.Core.Bool.{true, _&&_}
 use mathlib.Core.List.{List, [], _∷_, _++_}

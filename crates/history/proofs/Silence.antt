@@ -1,5 +1,6 @@
 -- A partner that is named by nothing but timeouts is brought nothing: its account only goes down.
--- Defines: quiet. Proves: received-none, silent-none; silent-step, silent-account.
+-- Defines: quiet.
+-- Proves: received-none, silent-none, silent-step, silent-account.
 use mathlib.Core.Path.{_≡_, refl}
 use mathlib.Core.Bool.{Bool, true, false, cond, _&&_, _||_, not}
 use mathlib.Core.List.{List, [], _∷_}

@@ -1,6 +1,7 @@
 -- Demand 3: the partners taken in are those released and those that still hold a place.
 -- Each held place weighs one, and a release counts one: what comes in goes out or stays.
--- Defines: seats. Proves: seats-balanced, held-count; taken-in, demand-taken-in.
+-- Defines: releasing, seats.
+-- Proves: seats-balanced, taken-in, demand-taken-in.
 use mathlib.Core.Path.{_≡_, refl, ap₂}
 use mathlib.Core.Bool.{Bool, true, not}
 use mathlib.Core.List.{List, [], _∷_}

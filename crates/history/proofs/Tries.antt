@@ -1,5 +1,5 @@
 -- Demand 3: no place is ever past its last try, so that no history holds a channel for ever.
--- Proves: tries-within; never-past, cold-never-past, demand-never-past.
+-- Proves: never-past, cold-never-past, demand-never-past.
 use mathlib.Core.Path.{_≡_}
 use mathlib.Core.Bool.{true, _&&_}
 use mathlib.Core.List.{List}

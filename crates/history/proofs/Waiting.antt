@@ -1,5 +1,5 @@
 -- Demand 3, the waiting partner: one that waits and is from then on named by nothing but timeouts is released, once, after the limit of tries at the latest.
--- Proves: left-after; waiting, demand-waiting; released-once, demand-released-once.
+-- Proves: left-after, waiting, released-once, demand-waiting, demand-released-once.
 use mathlib.Core.Path.{_≡_, refl, ap₂}
 use mathlib.Core.Bool.{Bool, true, false, _&&_, _||_}
 use mathlib.Core.List.{List, [], _∷_}

@@ -1,8 +1,9 @@
 -- Document 01, "Worth of each promise": histories, and what demand 3 counts in them.
 -- A history is a row of event records, any bytes, each given 20 bytes for its actions. Everything is counted from the defined steps.
--- Defines: after, summed; isOrder, isCall, isLoss, orders, calls, losses; actions, count, releases, placesHeld;
--- names, timeoutFor, silent, timeouts, holdsPlace, waits, releasesOf; heldTries;
--- perOrder, perCall, perLoss, timeoutsToRelease; actionsOf, ordersOf, callsOf, lossesOf.
+-- Defines: after, summed, one, isOrder, isCall, isLoss, acceptedAs, orders, calls, losses, actions, count, isRelease, releases,
+-- placesHeld, eventNames, isTimeout, eventTimeout, ofReading, names, timeoutFor, silent, timeouts, holdsPlace, waitingPhase,
+-- waitsIn, waits, releaseOf, releasesOf, triesIn, heldTries, perOrder, perCall, perLoss, timeoutsToRelease, actionsOf, ordersOf,
+-- callsOf, lossesOf.
 use Prim.Native.Nat.{ℕ, _+_, _*_}
 use mathlib.Core.Bool.{Bool, true, false, cond, _&&_, _||_, not}
 use mathlib.Core.List.{List, [], _∷_}

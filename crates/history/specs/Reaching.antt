@@ -1,5 +1,6 @@
 -- Document 01, "Worth of each promise": "the histories that reach them", from a cold start with X 1 to 2 and with one partner, RBC 5.
--- Defines: started, rbc5, its records; retries, lossesIn, closed; ordering, calling; repeated, reaching; Tally, tally, counts; oneToNine.
+-- Defines: started, rbc5, order5, drop5, up5, lost5, timeout5, version5, call5, ended5, retries, lossesIn, closed, ordering,
+-- calling, repeated, reaching, Tally, tally, counts, oneToNine.
 use Prim.Native.Nat.{ℕ, zero, suc, _-_}
 use mathlib.Core.List.{List, [], _∷_, _++_}
 use lib.ListN.{replicate}

@@ -1,6 +1,6 @@
 -- The layout of an image: one place's seven bytes, proved once over the place number, and the length of the whole.
--- Proves: placeIn-bytes, placesIn-bytes, stateIn-body; placesBytes-length, imageOf-length; same-bytes, bytes-same;
--- place-bytes-at, zeros-free, free-zeros.
+-- Proves: placeBytes-length, placesBytes-length, placeIn-bytes, placesIn-bytes, stateIn-body, imageOf-length, same-bytes,
+-- bytes-same, place-bytes-at, zeros-free, free-zeros.
 use mathlib.Core.Path.{_≡_, refl, ap, ap₂, sym, _∙_}
 use mathlib.Core.Bool.{Bool, true, false, cond}
 use mathlib.Core.List.{List, [], _∷_, _++_}

@@ -1,5 +1,6 @@
 -- Writing an image: the numbers that fit a byte, and the buffer once all is written.
--- Proves: sound-small, image-end; wrote-no-room, wrote-unsound, wrote-done.
+-- Defines: Small.
+-- Proves: sound-small, image-end, wrote-no-room, wrote-unsound, wrote-done.
 use mathlib.Core.Path.{_≡_, sym, ap, ap₂, _∙_}
 use mathlib.Core.Bool.{true, false}
 use mathlib.Core.List.{List, _∷_, _++_, append-assoc}

@@ -1,4 +1,5 @@
 -- Reading and writing images, on the definitions.
+-- Defines: placesAt.
 -- Proves: read-written, written-read, read-free.
 use mathlib.Core.Path.{_≡_, ap, sym, _∙_}
 use mathlib.Core.Logic.{_↔_}

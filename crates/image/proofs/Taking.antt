@@ -1,5 +1,6 @@
 -- Reading an image as the code does it: byte after byte, and by what its tests showed.
--- Proves: place-free, place-held; same-more, same-end, same-other, same-lengths; read-empty, read-unknown, read-wrong, read-whole, body-by; part-all, image-body.
+-- Proves: place-free, place-held, same-end, same-more, same-other, same-lengths, read-empty, read-unknown, read-wrong, read-whole,
+-- body-by, part-all, image-body.
 use mathlib.Core.Path.{_≡_, refl, sym, ap, ap₂, _∙_}
 use mathlib.Core.Bool.{Bool, true, false, cond, _&&_}
 use mathlib.Core.List.{List, [], _∷_, _++_, append-nil}

@@ -1,5 +1,7 @@
 -- Document 01, "Stored image": the 37 bytes of a state, and the state of 37 bytes.
--- Defines: imageKind, imageSize, placeSize; placeBytes, imageOf, stored; phaseOf, placeIn, stateIn; readImage.
+-- Defines: imageKind, imageSize, placeSize, holdingBytes, placeBytes, placesBytes, markByte, headBytes, bodyBytes, imageOf,
+-- writeRefused, writeImage, imaged, phased, directed, heldIn, placeIn, placesIn, headSize, stateIn, sameBytes, readRefused,
+-- readBody, readImage.
 use Prim.Native.Nat.{ℕ, zero, suc}
 use mathlib.Core.Bool.{Bool, true, false, cond, _&&_}
 use mathlib.Core.List.{List, [], _∷_, _++_}

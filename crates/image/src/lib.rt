@@ -13,6 +13,7 @@ use place::seat::Direction;
 use place::seat::Holding;
 use place::seat::Place;
 use place::turn::Limits;
+use record::number::word;
 use record::partner::Partner;
 use record::read::byte_at;
 use record::refusal::ACCEPTED;
@@ -211,12 +212,6 @@ fn place_at(s: &[u8], at: usize) -> Place
         low: byte_at(s, at + 6),
     };
     Place::held(direction, phase_of(phase, tries), partner)
-}
-
-fn word(n: u8) -> u32
-    ensures { λ r. ⌜ r ≡ n ⌝ }
-{
-    n as u32
 }
 
 fn limits_in(s: &[u8]) -> Limits

@@ -1,4 +1,4 @@
--- At the limit of tries, and past it, a timeout releases: the owner's own fault shut out by shape.
+-- At the limit of tries, and past it, a timeout releases: a count that passes the limit is not tried again.
 -- Proves: again-released.
 use mathlib.Core.Path.{_≡_, ap}
 use mathlib.Core.Bool.{cond}

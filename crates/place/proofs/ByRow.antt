@@ -1,5 +1,6 @@
 -- A law of every turn is one of every cell of every row of the phase table.
--- Defines: onNext. Proves: by-row, judged-case.
+-- Defines: onNext.
+-- Proves: by-row, judged-case.
 use Prim.Native.Nat.{ℕ}
 use Rattle.record.specs.declared.event.PartnerEvent.{PartnerEvent}
 use Rattle.record.proofs.Tests.{cond-holds, All, getD-all}

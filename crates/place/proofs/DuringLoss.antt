@@ -1,5 +1,6 @@
 -- No message goes over a lost connection: a place in Lost asks for the connection or releases it.
--- Defines: ownNumbers. Proves: lost-sends, lost-closes.
+-- Defines: ownNumbers.
+-- Proves: lost-sends, lost-closes.
 use mathlib.Core.Path.{_≡_, refl}
 use mathlib.Core.Bool.{Bool, true, _&&_, _||_}
 use mathlib.Core.List.{List, [], _∷_}

@@ -1,5 +1,6 @@
 -- The tries start afresh in another phase.
--- Defines: firstTries, fresh. Proves: turn-fresh.
+-- Defines: firstTries, fresh.
+-- Proves: turn-fresh.
 use mathlib.Core.Path.{_≡_, refl}
 use mathlib.Core.Bool.{Bool, true, cond}
 use Prim.Native.Nat.{ℕ, _+_}
@@ -36,7 +37,7 @@ again-fresh n number ph h = cond-holds (NextFresh ph) (ltb (tries ph) n) (Sends 
 
 row-fresh : (n : ℕ) (l : Limits) (ph : Phase) (v : ℕ) → All (λ c. NextFresh ph (play n l ph v c)) (table ph)
 row-fresh n l (Connecting t) v =
-    (tt, (refl, (tt, (again-fresh n 21 (Connecting t) (eq-eqb (t + 1) (t + 1) refl), (tt, (tt, tt))))))
+    (tt, (refl, (tt, (again-fresh n _ (Connecting t) (eq-eqb (t + 1) (t + 1) refl), (tt, (tt, tt))))))
 row-fresh n l (Contacting t) v = (
   tt,
   (
@@ -44,7 +45,7 @@ row-fresh n l (Contacting t) v = (
     (
       tt,
       (
-        again-fresh n 155 (Contacting t) (eq-eqb (t + 1) (t + 1) refl),
+        again-fresh n _ (Contacting t) (eq-eqb (t + 1) (t + 1) refl),
         (judged-case (NextFresh (Contacting t)) l v refl refl, (tt, tt)),
       ),
     ),
@@ -52,9 +53,9 @@ row-fresh n l (Contacting t) v = (
 )
 row-fresh n l Open v = (refl, (tt, (refl, (tt, (tt, (tt, tt))))))
 row-fresh n l (Lost t) v =
-    (tt, (refl, (tt, (again-fresh n 21 (Lost t) (eq-eqb (t + 1) (t + 1) refl), (tt, (tt, tt))))))
+    (tt, (refl, (tt, (again-fresh n _ (Lost t) (eq-eqb (t + 1) (t + 1) refl), (tt, (tt, tt))))))
 row-fresh n l (Ending t) v =
-    (tt, (tt, (tt, (again-fresh n 156 (Ending t) (eq-eqb (t + 1) (t + 1) refl), (tt, (tt, tt))))))
+    (tt, (tt, (tt, (again-fresh n _ (Ending t) (eq-eqb (t + 1) (t + 1) refl), (tt, (tt, tt))))))
 
 -- no turn carries the old phase's tries into another phase
 -- promise

@@ -1,5 +1,6 @@
 -- What every turn of a place keeps to, whatever the phase and the event.
--- Proves: turn-sound, turn-few, sessions-rbc; event-sound, shut-sound, after-holds.
+-- Defines: NextSound.
+-- Proves: closing-sound, turn-sound, turn-few, sessions-rbc, event-sound, shut-sound, after-seat, after-holds.
 use mathlib.Core.Path.{_≡_, refl}
 use mathlib.Core.Bool.{true, false, _&&_}
 use Prim.Native.Nat.{ℕ, _+_, _≤_, _<_}
@@ -138,6 +139,20 @@ shut-sound n some-try which (Held d ph p) ok =
     cond-holds (λ t. placeOk n (placeAfter (seat d ph p) t) ≡ true) (due which ph p) (closing ph) Refused
     (after-sound n d ph p (closing ph) ok (closing-sound n some-try ph))
     ok
+
+-- free, or held by this partner in this direction
+abbrev SeatOf : Direction → Partner → Holding → Type 0
+SeatOf d p Free = Unit
+SeatOf d p (Held e ph q) = (e ≡ d) × (q ≡ p)
+
+-- "Direction never changes while the place is held", nor does the partner
+-- promise
+pub after-seat : (d : Direction) (ph : Phase) (p : Partner) (t : Turn) → SeatOf d p (placeAfter (seat d ph p) t .holding)
+after-seat d ph p Refused = (refl, refl)
+after-seat d ph p Released = tt
+after-seat d ph p (Becomes q) = (refl, refl)
+after-seat d ph p (Sends number q) = (refl, refl)
+after-seat d ph p (SendsBoth first second q) = (refl, refl)
 
 -- a place holds after a turn whom it held before, or nobody
 pub after-holds : (q : Partner) (place : Place) (t : Turn) → holds q (placeAfter place t) ≡ true → holds q place ≡ true

@@ -1,5 +1,6 @@
 -- Document 01, "What the box remembers", the part on one place.
--- Defines: phaseNumber, tries, directionNumber; tryLimit; vacant, seat, isFree, partnerOf, holds; placeOk.
+-- Defines: phaseNumber, tries, directionNumber, tryLimit, vacant, seat, isFreeHolding, isFree, partnerIn, partnerOf, holdsIn, holds,
+-- phaseOk, incomingPhase, directionOk, holdingOk, placeOk.
 use Prim.Native.Nat.{ℕ}
 use mathlib.Core.Bool.{Bool, true, false, _&&_}
 use lib.Dec.{leb}

@@ -1,6 +1,7 @@
 -- Document 01, "Rules of one step", the part on one place: the phase table, closing, judging a version.
--- Defines: the six actions; Cell, table, cell, legend, cellOf; closing, judged, again, play, turn; takes, numbers; placeAfter,
--- placeTurn; due, shutTurn.
+-- Defines: request, release, incompatible, initiate, terminate, established, Cell, table, column, cell, legend, cellOf, firstTry,
+-- closing, xOf, supported, judged, withTries, oneMore, again, versionOf, play, turn, takes, numbers, heldAfter, placeAfter,
+-- holdingTurn, placeTurn, inSession, notEnding, due, shutHolding, shutTurn.
 use Prim.Native.Nat.{ℕ, _+_, _/_}
 use mathlib.Core.Bool.{Bool, true, false, cond, _&&_}
 use mathlib.Core.List.{List, [], _∷_}
@@ -80,7 +81,7 @@ column Ended = 5
 abbrev pub cell : Phase → PartnerEvent → Cell
 cell ph e = getD (table ph) (column e) refuse
 
--- the ten cells that the table has, by the numbers that the code gives them
+-- the ten cells that the table has, as they stand there, by the numbers that the code gives them
 abbrev pub legend : List Cell
 legend =
     refuse

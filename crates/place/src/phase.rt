@@ -10,6 +10,7 @@ use crate::turn::REQUEST;
 use crate::turn::TERMINATE;
 use crate::turn::Turn;
 use record::event::PartnerEvent;
+use record::number::word;
 use record::test::and;
 
 // The phase of a held place, with the tries used; an open one has none.
@@ -49,12 +50,6 @@ const JUDGE: u8 = 9;
 
 // Versions of one X.
 const VERSIONS_OF_X: u8 = 16;
-
-fn word(n: u8) -> u32
-    ensures { λ r. ⌜ r ≡ n ⌝ }
-{
-    n as u32
-}
 
 fn version_of(event: PartnerEvent) -> u8
     ensures { λ r. ⌜ r ≡ versionOf event ⌝ }

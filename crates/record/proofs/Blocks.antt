@@ -1,5 +1,6 @@
 -- Blocks of one size, written one after the other into a buffer from a place on.
--- Defines: FilledTo. Proves: blocks-length, filled-more.
+-- Defines: FilledTo.
+-- Proves: blocks-length, filled-more.
 use mathlib.Core.Path.{_≡_, refl, sym, ap, ap₂, _∙_}
 use mathlib.Core.List.{List, [], _∷_, _++_, append-nil, append-assoc}
 use Prim.Native.Nat.{ℕ, _+_, _*_, _≤_, _<_}

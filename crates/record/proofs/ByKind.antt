@@ -1,5 +1,5 @@
 -- The tables of causes and kinds outside their entries, and reading by the first byte.
--- Proves: cause-first, up, body-none, fields-at, long-at; read-empty, read-unknown, read-length, read-fields.
+-- Proves: cause-first, up, body-none, fields-at, long-at, read-empty, read-unknown, read-length, read-fields.
 use mathlib.Core.Path.{_≡_, refl, sym, ap, subst, _∙_}
 use mathlib.Core.Bool.{cond}
 use mathlib.Core.List.{List, [], _∷_}

@@ -1,6 +1,9 @@
 -- No second answer satisfies the contract of a public function: one line for each of this crate's, over the contract as the checker names it.
 use mathlib.Core.Path.{_≡_, sym, _∙_}
 
+pub word-once : (κ : _) (n : _) (r₁ : _) (r₂ : _) → Rattle.record.proofs.number.word.Reads.Post κ (n, tt) r₁ (n, tt) → Rattle.record.proofs.number.word.Reads.Post κ (n, tt) r₂ (n, tt) → r₁ ≡ r₂
+word-once κ n r₁ r₂ p q = p ∙ sym q
+
 pub partner-same-once : (κ : _) (self : _) (other : _) (r₁ : _) (r₂ : _) → Rattle.record.proofs.partner.Partner.same.Reads.Post κ (self, (other, tt)) r₁ (self, (other, tt)) → Rattle.record.proofs.partner.Partner.same.Reads.Post κ (self, (other, tt)) r₂ (self, (other, tt)) → r₁ ≡ r₂
 partner-same-once κ self other r₁ r₂ p q = p ∙ sym q
 

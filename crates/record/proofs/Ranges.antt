@@ -1,13 +1,16 @@
 -- A record that is read is in its ranges; one that is refused has 1, 2 or 3.
--- Proves: reading-ok.
+-- Defines: readingOk.
+-- Proves: reading-ok, reading-number.
 use mathlib.Core.Path.{_≡_, refl}
 use mathlib.Core.Bool.{Bool, true, false, cond, _&&_, _||_}
 use mathlib.Core.List.{List, [], _∷_}
-use Prim.Native.Nat.{ℕ}
+use Prim.Native.Nat.{ℕ, _≤_}
+use native.Mathlib.Omega.{arith}
 use lib.Dec.{eqb, leb, ltb}
 use lib.ListN.{length}
+use borrow.Author.Tests.{leb-true}
 use Rattle.record.specs.Partners.{partnerOk}
-use Rattle.record.specs.Records.{reading, Body, bodies, bodyOf, noBody, partnerBody, byte, bit, causes, partnerIn, known, lengthOf, highestLevel, messageVersion, messageCall, messageEnded, highestVersion, messageOk, messageMeans, partnerEventOk, eventOk}
+use Rattle.record.specs.Records.{reading, readingNumber, Body, bodies, bodyOf, noBody, partnerBody, byte, bit, causes, partnerIn, known, lengthOf, highestLevel, messageVersion, messageCall, messageEnded, highestVersion, messageOk, messageMeans, partnerEventOk, eventOk}
 use Rattle.record.specs.Refusals.{wrongLength, unknownKind, outOfRange}
 use Rattle.record.specs.declared.event.PartnerEvent.{PartnerEvent}
 use Rattle.record.specs.declared.event.PartnerEvent.the-variants.{Drop, Up, Loss, Timeout, Version, Ended}
@@ -96,3 +99,12 @@ reading-ok (kind ∷ body) =
     (λ no-range. refl))
     refl)
     refl
+
+-- "1 (empty), 2, 1 (length), 3": a record that means no event has one of these numbers, and no other has
+-- promise
+pub reading-number : (s : List ℕ) → readingNumber (reading s) ≤ outOfRange
+reading-number s = by (reading s) (reading-ok s)
+  where
+    by : (r : Reading) → readingOk r ≡ true → readingNumber r ≤ outOfRange
+    by (Meant e) ok = omega arith
+    by (Refused r) ok = leb-true r outOfRange (and-right (leb wrongLength r) (leb r outOfRange) ok)

@@ -1,5 +1,6 @@
 -- Tests that pass, joined by `&&` and chosen by `cond`.
--- Proves: and-left, and-right, and-both, cond-holds, cond-case, true-false, getD-all, same-refl, same-eq.
+-- Defines: All.
+-- Proves: and-left, and-right, and-both, true-false, cond-case, cond-holds, getD-all, same-refl, same-eq.
 use mathlib.Core.Path.{_≡_, refl}
 use mathlib.Core.Bool.{Bool, true, false, cond, _&&_}
 use mathlib.Core.List.{List, [], _∷_}

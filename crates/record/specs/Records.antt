@@ -1,5 +1,8 @@
 -- Document 01, "Event records": the table of kinds, and reading one record.
--- Defines: lengths, known; byte, bit, flag, partnerIn, causes; a Body for each kind; bodies, fields; reading, readingNumber; eventOk.
+-- Defines: highestLevel, missionEnded, missionStarting, missionUnderWay, messageVersion, messageCall, messageEnded, highestVersion,
+-- lengths, lengthOf, known, byte, kindOrder, kindLoss, kindMessage, bit, flag, partnerIn, causes, causeOf, Body, levelBody,
+-- missionBody, modeBody, holeBody, orderOk, orderMeans, orderBody, partnerBody, endAllBody, messageOk, messageMeans, messageBody,
+-- noBody, bodies, bodyOf, fields, reading, readingNumber, partnerEventOk, eventOk.
 use Prim.Native.Nat.{ℕ}
 use mathlib.Core.Bool.{Bool, true, false, cond, _&&_, _||_}
 use mathlib.Core.List.{List, [], _∷_}

@@ -1,4 +1,6 @@
 -- Document 01, "Numbers of refusal": each number with its one name.
+-- Defines: accepted, wrongLength, unknownKind, outOfRange, notInForce, hasPlace, hasNone, notTaken, allTaken, callFromRiu, noRoom,
+-- notSound, logTooLong, badLimits.
 use Prim.Native.Nat.{ℕ}
 
 -- what an answer carries where nothing was refused

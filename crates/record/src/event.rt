@@ -1,3 +1,4 @@
+// Events: what a record means.
 use crate::partner::Partner;
 
 // The six events that a phase takes: the columns of the phase table.

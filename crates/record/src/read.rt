@@ -10,6 +10,7 @@ use crate::event::Cause;
 use crate::event::Event;
 use crate::event::PartnerEvent;
 use crate::event::Reading;
+use crate::number::word;
 use crate::partner::Partner;
 use crate::refusal::OUT_OF_RANGE;
 use crate::refusal::UNKNOWN_KIND;
@@ -61,12 +62,6 @@ fn wide(n: u8) -> usize
     ensures { λ r. ⌜ r ≡ n ⌝ }
 {
     n as usize
-}
-
-fn word(n: u8) -> u32
-    ensures { λ r. ⌜ r ≡ n ⌝ }
-{
-    n as u32
 }
 
 // The byte at a place of a slice; 0 past its end.

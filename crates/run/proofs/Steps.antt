@@ -1,5 +1,5 @@
--- The counts of a run are those of its steps, and no step of a run is refused with 1, 2, 10 or 11.
--- Proves: go-sum; run-read, run-refused, run-request .. run-established; run-codes.
+-- The counts of a run are those of its steps.
+-- Proves: go-sum, run-read, run-refused, run-request, run-release, run-incompatible, run-initiate, run-terminate, run-established.
 use mathlib.Core.Path.{_≡_, refl, sym, ap, _∙_}
 use mathlib.Core.Bool.{cond}
 use mathlib.Core.List.{List, [], _∷_}

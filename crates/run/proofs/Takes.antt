@@ -1,5 +1,5 @@
 -- One record off the front of a log, and the run that goes on after it.
--- Proves: take-end, take-unknown, take-short, take-whole; go-end, go-budget, go-stop, go-step.
+-- Proves: take-end, by-kind, take-unknown, take-short, take-whole, go-end, go-budget, go-stop, go-step.
 use mathlib.Core.Path.{_≡_, refl, sym, ap, _∙_}
 use mathlib.Core.Bool.{cond}
 use mathlib.Core.List.{List, [], _∷_}

@@ -1,5 +1,6 @@
 -- The counts of a run, one record more.
--- Proves: totalled-next, totalled-end, totalled-past, added-below; counted-done, counted-kept; below-more, bounded-fresh, bounded-next.
+-- Proves: totalled-none, totalled-next, totalled-end, totalled-past, below-more, added-below, counted-done, counted-kept,
+-- bounded-fresh, bounded-next.
 use mathlib.Core.Path.{_≡_, refl, sym, ap, ap₂, _∙_}
 use mathlib.Core.Bool.{Bool, true, false, cond}
 use mathlib.Core.List.{List, [], _∷_}

@@ -1,5 +1,6 @@
 -- Document 01, "Run over a log".
--- Defines: the stops; takeOne; steps, the list of the steps taken; count, totalled, counted; go, run; sumOf, runCode, allCodes.
+-- Defines: nothingLeft, budgetUsed, recordShort, kindUnknown, longestLog, mostTotal, takeOne, onTaken, steps, count, noTotals,
+-- totalled, added, Below, Bounded, fresh, counted, ended, go, runRefused, run, sumOf, runCode, allCodes.
 use Prim.Native.Nat.{ℕ, zero, suc, _+_, _*_, _≤_}
 use mathlib.Core.Bool.{Bool, true, cond, _&&_, _||_}
 use mathlib.Core.List.{List, [], _∷_}
@@ -35,6 +36,10 @@ kindUnknown = 3
 -- "log longer than 1,048,576 bytes"
 abbrev pub longestLog : ℕ
 longestLog = 1_048_576
+
+-- no total passes four actions for each byte of the longest log
+abbrev pub mostTotal : ℕ
+mostTotal = 4 * longestLog
 
 -- what stands at the front of a log, the budget left aside
 unfoldable pub takeOne : List ℕ → Taken

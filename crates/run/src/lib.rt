@@ -1,6 +1,6 @@
 // The run over a log: its records one after the other, counted.
 ghost use mathlib.Core.Path.{_≡_};
-ghost use Prim.Native.Nat.{_+_, _≤_, _<_};
+ghost use Prim.Native.Nat.{_+_, _*_, _≤_, _<_};
 ghost use mathlib.Core.Bool.{true};
 ghost use lib.ListN.{length, take, drop};
 ghost use Rattle.record.specs.Refusals.{outOfRange};
@@ -8,7 +8,8 @@ ghost use Rattle.place.specs.Places.{tryLimit};
 ghost use Rattle.unit.specs.States.{sound};
 ghost use Rattle.unit.specs.OnRecords.{actionRoom, onRecord};
 ghost use Rattle.unit.specs.Steps.{refused};
-ghost use Rattle.run.specs.Runs.{takeOne, noTotals, added, totalled, Below, Bounded, fresh, counted, go, run};
+ghost use Rattle.unit.specs.Forms.{mostActions};
+ghost use Rattle.run.specs.Runs.{longestLog, mostTotal, takeOne, noTotals, added, totalled, Below, Bounded, fresh, counted, go, run};
 use place::turn::ESTABLISHED;
 use place::turn::INCOMPATIBLE;
 use place::turn::INITIATE;
@@ -84,7 +85,7 @@ impl Totals {
 
     // One more action of this number.
     fn add(self, number: u8) -> Totals
-        requires { ⌜ Below 8388608 self ⌝ }
+        requires { ⌜ Below (2 * mostTotal) self ⌝ }
         ensures { λ r. ⌜ r ≡ added self number ⌝ }
     {
         let mut next = self;
@@ -119,8 +120,8 @@ impl Totals {
 
     // One more action: the one of this number among a step's, if it has so many.
     fn add_at(self, actions: Actions, i: usize) -> Totals
-        requires { ⌜ (actions .count ≤ 4) × (i < 4) × Below (4194304 + i) self ⌝ }
-        ensures { λ r. ⌜ Below (4194304 + (i + 1)) r × (totalled self (drop i (take (actions .count) (actions .items))) ≡ totalled r (drop (i + 1) (take (actions .count) (actions .items)))) ⌝ }
+        requires { ⌜ (actions .count ≤ mostActions) × (i < mostActions) × Below (mostTotal + i) self ⌝ }
+        ensures { λ r. ⌜ Below (mostTotal + (i + 1)) r × (totalled self (drop i (take (actions .count) (actions .items))) ≡ totalled r (drop (i + 1) (take (actions .count) (actions .items)))) ⌝ }
     {
         if i < actions.count {
             let action = actions.items[i];
@@ -132,7 +133,7 @@ impl Totals {
 
     // The actions of one step, of which there are at most four.
     fn add_all(self, actions: Actions) -> Totals
-        requires { ⌜ (actions .count ≤ 4) × Below 4194304 self ⌝ }
+        requires { ⌜ (actions .count ≤ mostActions) × Below mostTotal self ⌝ }
         ensures { λ r. ⌜ r ≡ totalled self (take (actions .count) (actions .items)) ⌝ }
     {
         self.add_at(actions, 0)
@@ -175,7 +176,7 @@ impl Tally {
 
     // The run after a record of this length that was refused.
     fn refuse(self, length: usize) -> Tally
-        requires { ⌜ Bounded self × (self .offset + length ≤ 1048576) ⌝ }
+        requires { ⌜ Bounded self × (self .offset + length ≤ longestLog) ⌝ }
         ensures { λ r. ⌜ r ≡ counted self length (refused outOfRange (self .state)) ⌝ }
     {
         let mut next = self;
@@ -187,7 +188,7 @@ impl Tally {
 
     // The run after one more record.
     fn apply(self, bytes: &[u8]) -> Tally
-        requires { ⌜ Bounded self × (self .offset + length (now bytes) ≤ 1048576) × (sound tryLimit (self .state) ≡ true) ⌝ }
+        requires { ⌜ Bounded self × (self .offset + length (now bytes) ≤ longestLog) × (sound tryLimit (self .state) ≡ true) ⌝ }
         ensures { λ r. ⌜ r ≡ counted self (length (now (bytes .entry))) (onRecord tryLimit (self .state) (now (bytes .entry)) actionRoom) ⌝ }
     {
         match read(bytes) {
@@ -216,7 +217,7 @@ impl Tally {
 
 // The records of a log from a sound state.
 fn go(state: State, log: &[u8], budget: usize) -> Report
-    requires { ⌜ (length (now log) ≤ 1048576) × (sound tryLimit state ≡ true) ⌝ }
+    requires { ⌜ (length (now log) ≤ longestLog) × (sound tryLimit state ≡ true) ⌝ }
     ensures { λ r. ⌜ r ≡ go tryLimit budget (fresh state) (now (log .entry)) ⌝ }
 {
     let mut tally = Tally::fresh(state);

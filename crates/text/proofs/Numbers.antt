@@ -1,5 +1,5 @@
 -- Decimal digits, made from the last one to the first.
--- Proves: digit-last, digit-more; digits-few.
+-- Proves: digit-last, digit-more, rest-less, digits-few.
 use mathlib.Core.Path.{_≡_, sym, ap, _∙_}
 use mathlib.Core.Bool.{cond}
 use mathlib.Core.List.{List, [], _∷_, _++_, append-assoc}

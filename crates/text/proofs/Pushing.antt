@@ -1,5 +1,6 @@
 -- Characters pushed one after the other, and the text put into a buffer.
--- Proves: pushes-append, pushes-next, pushes-actions; pushes-text, texted-take; placed-none, placed-more, placed-all.
+-- Proves: pushes-append, pushes-next, pushes-action, pushes-text, texted-take, placed-more, placed-none, placed-all, placed-text,
+-- placed-used.
 use mathlib.Core.Path.{_≡_, refl, sym, ap, ap₂, _∙_}
 use mathlib.Core.List.{List, [], _∷_, _++_, append-nil, append-assoc}
 use Prim.Native.Nat.{ℕ, suc, _+_, _≤_, _<_}
@@ -19,6 +20,20 @@ pub pushes-append : (t : Text) (xs ys : List ℕ) → pushes t (xs ++ ys) ≡ pu
 unfolding pushes
 pushes-append t [] ys = refl
 pushes-append t (x ∷ xs) ys = pushes-append (pushed t x) xs ys
+
+-- parts pushed one after the other are pushed as one
+pub pushes-three : (t : Text) (xs ys zs : List ℕ) → pushes (pushes (pushes t xs) ys) zs ≡ pushes t (xs ++ (ys ++ zs))
+pushes-three t xs ys zs = sym (pushes-append t xs (ys ++ zs) ∙ pushes-append (pushes t xs) ys zs)
+
+-- so are the parts of a line and its end, and those of the last line
+pub pushes-line : (t : Text) (ws xs ys zs : List ℕ) (b : ℕ) → pushed (pushes (pushes (pushes (pushes t ws) xs) ys) zs) b ≡ pushes t (ws ++ (xs ++ (ys ++ (zs ++ (b ∷ [])))))
+unfolding pushes
+pushes-line t ws xs ys zs b =
+    pushes-three (pushes (pushes t ws) xs) ys zs (b ∷ []) ∙ sym (pushes-append t ws (xs ++ (ys ++ (zs ++ (b ∷ [])))) ∙ pushes-append (pushes t ws) xs (ys ++ (zs ++ (b ∷ []))))
+
+pub pushes-end : (t : Text) (b₁ b₂ b₃ b₄ : ℕ) (xs ys : List ℕ) (b : ℕ) → pushed (pushes (pushes (pushed (pushed (pushed (pushed t b₁) b₂) b₃) b₄) xs) ys) b ≡ pushes t ((b₁ ∷ b₂ ∷ b₃ ∷ b₄ ∷ []) ++ (xs ++ (ys ++ (b ∷ []))))
+unfolding pushes
+pushes-end t b₁ b₂ b₃ b₄ xs ys b = pushes-three (pushes t (b₁ ∷ b₂ ∷ b₃ ∷ b₄ ∷ [])) xs ys (b ∷ [])
 
 -- the next byte of a list
 pub pushes-next : (t : Text) (bytes : List ℕ) (i : ℕ) → i < length bytes → pushes t (drop i bytes) ≡ pushes (pushed t (getD bytes i 0)) (drop (i + 1) bytes)

@@ -1,5 +1,6 @@
 -- Document 01, "Run over a log", the part on the program `sheet`: the text of a number, of a line and of the end.
--- Defines: digits, decimal; actionText, lineText, endText; textRoom, texted, pushed, pushes; placed, placedCount.
+-- Defines: newline, space, slash, digitZero, colon, digits, mostDigits, decimal, partnerNumber, actionText, lineText, endText,
+-- textRoom, texted, pushed, pushes, placed, placedCount.
 use Prim.Native.Nat.{ℕ, zero, suc, _+_, _*_, _/_, _%_}
 use mathlib.Core.Bool.{cond}
 use mathlib.Core.List.{List, [], _∷_, _++_}

@@ -4,7 +4,8 @@ ghost use Prim.Native.Nat.{_≤_, _<_};
 ghost use mathlib.Core.List.{[], _∷_};
 ghost use lib.ListN.{length, take, drop};
 ghost use Rattle.record.specs.Blocks.{blocks};
-ghost use Rattle.text.specs.Texts.{space, colon, slash, newline, decimal, partnerNumber, actionText, lineText, endText, texted, pushed, pushes, placed, placedCount};
+ghost use Rattle.text.specs.Texts.{decimal, partnerNumber, actionText, lineText, endText, texted, pushed, pushes, placed, placedCount};
+use record::number::word;
 use record::partner::Partner;
 use unit::answer::Action;
 use unit::answer::Actions;
@@ -36,12 +37,6 @@ const SLASH: u8 = 47;
 const DIGIT_ZERO: u8 = 48;
 
 const COLON: u8 = 58;
-
-fn word(n: u8) -> u32
-    ensures { λ r. ⌜ r ≡ n ⌝ }
-{
-    n as u32
-}
 
 fn partner_number(p: Partner) -> u32
     ensures { λ r. ⌜ r ≡ partnerNumber p ⌝ }

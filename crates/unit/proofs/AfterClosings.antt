@@ -1,5 +1,6 @@
 -- What an end all leaves, and which place an order takes.
--- Defines: isDue, WasFree. Proves: shut-done, end-all-closes, mission-closes; order-place.
+-- Defines: isDue.
+-- Proves: shut-done, end-all-closes, mission-closes, order-place.
 use mathlib.Core.Path.{_≡_, refl, sym, ap, subst, _∙_}
 use mathlib.Core.Bool.{Bool, true, false, _&&_}
 use mathlib.Core.List.{List, [], _∷_}

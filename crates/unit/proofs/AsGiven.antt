@@ -1,4 +1,5 @@
 -- A refused step hands the state back as it was, with no actions.
+-- Defines: Kept.
 -- Proves: step-kept, onRecord-kept.
 use mathlib.Core.Path.{_≡_, refl}
 use mathlib.Core.Bool.{Bool}

@@ -1,5 +1,5 @@
 -- What a step writes into the action buffer.
--- Proves: written-none, written-front, written-later; onRecord-writes-nothing.
+-- Proves: written-none, written-front, written-later, onRecord-writes-nothing.
 use mathlib.Core.Path.{_≡_, refl, sym, ap, _∙_}
 use mathlib.Core.List.{List, []}
 use Prim.Native.Nat.{ℕ, _*_}

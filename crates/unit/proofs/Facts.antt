@@ -1,5 +1,6 @@
 -- Soundness as facts. That of the places is an account: no place is bad, and no partner weighs more than one.
--- Proves: places-facts, facts-places; sound-facts, facts-sound; set-facts, take-facts, shut-here, shut-facts, place-at.
+-- Defines: bad, PlacesFacts, Facts.
+-- Proves: places-facts, facts-places, sound-facts, facts-sound, set-facts, take-facts, shut-here, shut-facts, place-at.
 use mathlib.Core.Path.{_≡_, refl, ap, _∙_}
 use mathlib.Core.Bool.{Bool, true, false, cond, _&&_}
 use mathlib.Core.List.{List, [], _∷_}

@@ -1,5 +1,6 @@
 -- A step has at most four actions, so that the code's array of four holds them all.
--- Proves: shutting-few, room-free; step-few, onRecord-few.
+-- Defines: busy.
+-- Proves: shut-few, shutting-few, once-few, room-free, step-few, onRecord-few.
 use mathlib.Core.Path.{_≡_, ap}
 use mathlib.Core.Bool.{Bool, true, false, not}
 use mathlib.Core.List.{List, [], _∷_, map}

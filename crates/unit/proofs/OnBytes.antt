@@ -1,5 +1,5 @@
 -- The step on a record by what the code's tests showed, and its two answers: the struct and the buffer.
--- Proves: on-room, on-unsound, on-reading; refused-pair, answered-pair, answered-few.
+-- Proves: on-room, on-unsound, on-reading, refused-pair, answered-few, answered-pair.
 use mathlib.Core.Path.{_≡_, refl, sym, ap, subst, _∙_}
 use mathlib.Core.Bool.{true, false}
 use mathlib.Core.List.{List}

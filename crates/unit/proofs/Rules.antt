@@ -1,5 +1,5 @@
 -- Each kind of step by what the code's tests and search showed, and the array of actions against the list.
--- Proves: packed-done; hole-is, mission-is, order-is, call-is, named-is, turned-is; push-listed, send-listed.
+-- Proves: packed-done, hole-is, mission-is, order-is, call-is, named-is, turned-is, push-listed, send-listed.
 use mathlib.Core.Path.{_≡_, sym, ap, ap₂, _∙_}
 use mathlib.Core.Bool.{Bool, cond}
 use mathlib.Core.List.{List, [], _∷_, _++_, map, append-nil, append-assoc}

@@ -1,6 +1,7 @@
 -- What a search finds, for any test and any number of places.
--- Proves: first-passes, first-none, none-first; seek-ok, found-ok; searched-more, searched-found, searched-none;
--- seek-at, seek-vacant, seek-full.
+-- Defines: FoundOk, SearchedTo.
+-- Proves: first-passes, first-none, none-first, seek-ok, found-ok, searched-more, searched-found, searched-none, seek-at,
+-- seek-vacant, seek-full.
 use mathlib.Core.Path.{_≡_, refl, ap, subst, _∙_}
 use mathlib.Core.Bool.{Bool, true, false, cond}
 use mathlib.Core.List.{List, [], _∷_}

@@ -1,5 +1,6 @@
 -- A change carried out, in the shapes that the code builds.
--- Proves: shut-nothing, shutting-nothing; settled-past; carried-noted, carried-quiet, carried-take, carried-set; carried-few, packed-carried, packed-unswept.
+-- Proves: shut-nothing, shutting-nothing, carried-noted, carried-quiet, carried-set, carried-take, settled-past, carried-few,
+-- packed-carried, packed-unswept.
 use mathlib.Core.Path.{_≡_, refl, sym, ap, ap₂, subst, _∙_}
 use mathlib.Core.Bool.{true, false}
 use mathlib.Core.List.{List, [], _∷_, _++_, map, append-nil}
@@ -66,7 +67,7 @@ module _ (s : State) where
   module _ (four : length (s .places) ≡ placeCount) (r : ℕ) (t : Train) (m : Marks) where
     -- a change that sets no place: the closings alone
     pub carried-noted : (which : Due) → carried s (noted r t m which) ≡ record { code = r; state = withPlaces (withMarks (withTrain s t) m) (shut which (s .places)); actions = shutting which (s .places) }
-    unfolding carried noted
+    unfolding carried settled noted
     carried-noted which =
         let past : length (shut which (s .places)) ≤ placeCount = rw (length-shut which (s .places)) (omega (arith, four)) in
         λ i.
@@ -89,7 +90,7 @@ module _ (s : State) where
 
   -- one place set, none closed
   pub carried-set : (at : ℕ) (place : Place) (p : Partner) (t : Turn) → carried s (record { code = refusal.accepted; train = s .train; marks = s .marks; which = Nothing; at = at; place = place; partner = p; turn = t }) ≡ done (withPlaces s (set (s .places) at place)) (map (act p) (numbers t))
-  unfolding carried
+  unfolding carried settled
   carried-set at place p t =
       λ i.
       record {
@@ -100,7 +101,7 @@ module _ (s : State) where
 
   -- a partner taken in after the closings
   pub carried-take : (m : Marks) (which : Due) (at : ℕ) (p : Partner) → carried s (record { code = refusal.accepted; train = s .train; marks = m; which = which; at = at; place = seat Outgoing (Connecting firstTry) p; partner = p; turn = Sends request (Connecting firstTry) }) ≡ takenIn (sweep which (withMarks s m)) at p
-  unfolding carried
+  unfolding carried settled
   carried-take m which at p = refl
 
   module _ (c : Change) where

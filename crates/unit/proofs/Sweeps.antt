@@ -1,5 +1,5 @@
 -- The closing of the places that are due, place after place as the code does it.
--- Proves: swept-place, swept-more, sent-more, swept-all, sent-all; sweep-places, sweep-actions.
+-- Proves: swept-place, swept-more, sent-more, swept-all, sent-all, sweep-places, sweep-actions.
 use mathlib.Core.Path.{_≡_, refl, sym, ap, ap₂, _∙_}
 use mathlib.Core.List.{List, [], _∷_, _++_, map, append-nil, append-assoc}
 use Prim.Native.Nat.{ℕ, suc, _+_, _≤_, _<_}

@@ -1,5 +1,5 @@
 -- Soundness of the places as the code tests it, from the lowest up.
--- Proves: absent-by; ok-more, ok-end, ok-bad; sound-four.
+-- Proves: absent-by, ok-end, ok-more, ok-bad, sound-four.
 use mathlib.Core.Path.{_≡_, refl, sym, ap, ap₂, _∙_}
 use mathlib.Core.Bool.{Bool, true, false, _&&_}
 use mathlib.Core.List.{List}

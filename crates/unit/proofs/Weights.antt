@@ -1,5 +1,6 @@
 -- The places weighed: the sum of a weight over all of them. One account of a store and of a closing serves every law that counts places.
--- Defines: weigh, once, here. Proves: weigh-set, weigh-shut, weigh-few, weigh-at, length-shut.
+-- Defines: weigh, once, here.
+-- Proves: weigh-set, weigh-shut, weigh-few, weigh-at, length-shut.
 use mathlib.Core.Path.{_≡_, refl, ap}
 use mathlib.Core.Bool.{Bool, cond}
 use mathlib.Core.List.{List, [], _∷_}

@@ -1,6 +1,6 @@
 -- Document 01, "Marked examples": P1 to P10, "X 1 to 2".
 -- A line is one record's bytes, and what it gives: 0 or the refusal, the actions in their order, and the whole state after it.
--- Defines: the short names of partners, places and states; p1 .. p10; examples; got, want.
+-- Defines: Line, examples, got, want.
 use Prim.Native.Nat.{ℕ}
 use mathlib.Core.Bool.{true, false}
 use mathlib.Core.List.{List, [], _∷_, _++_, map}

@@ -1,5 +1,6 @@
--- Document 01, "Each place and its form": the answer of a step as the code holds it, its actions in an array of four.
--- Defines: mostActions, noAction; listed, pushed, pushAll; packed, stepped; noted, closes, settled, carried.
+-- The answer of a step as the code holds it, its actions in an array of four; and a change, what the code reads from an event before
+-- it carries it out.
+-- Defines: mostActions, noAction, listed, pushed, pushAll, packed, stepped, noted, closes, settled, carried.
 use Prim.Native.Nat.{ℕ, _+_}
 use mathlib.Core.Bool.{Bool, true, false, cond}
 use mathlib.Core.List.{List, [], _∷_, _++_, map}
@@ -12,7 +13,7 @@ use Rattle.place.specs.declared.turn.Turn.the-variants.{Refused}
 use Rattle.place.specs.declared.turn.Due.{Due}
 use Rattle.place.specs.declared.turn.Due.the-variants.{Every, Sessions, Nothing}
 use Rattle.unit.specs.States.{placeCount}
-use Rattle.unit.specs.Steps.{Outcome, act, shut, shutting}
+use Rattle.unit.specs.Steps.{Outcome, act, withPlaces, shut, shutting}
 use Rattle.unit.specs.declared.state.Train.{Train}
 use Rattle.unit.specs.declared.state.Marks.{Marks}
 use Rattle.unit.specs.declared.state.State.{State}
@@ -81,6 +82,6 @@ unfoldable pub carried : State → Change → Outcome
 carried s c =
     record {
       code = c .code;
-      state = record { limits = s .limits; train = c .train; marks = c .marks; places = set (shut (c .which) (s .places)) (c .at) (c .place) };
+      state = settled (withPlaces s (shut (c .which) (s .places))) c;
       actions = shutting (c .which) (s .places) ++ map (act (c .partner)) (numbers (c .turn));
     }

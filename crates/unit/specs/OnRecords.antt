@@ -1,5 +1,5 @@
 -- Document 01, "Rules of one step" on bytes: the step on a record, and the bytes of its actions.
--- Defines: actionRoom, actionSize; onReading, onRecord, trace; actionBytes, written.
+-- Defines: actionRoom, actionSize, onReading, onRecord, trace, bytesOf, actionBytes, written.
 use Prim.Native.Nat.{ℕ, _*_}
 use mathlib.Core.Bool.{cond}
 use mathlib.Core.List.{List, [], _∷_, _++_}

@@ -1,5 +1,6 @@
 -- Document 01, "What the box remembers": soundness of a state, and the cold start.
--- Defines: placeCount; first, seek; limitsOk, trainOk, marksOk, absent, placesOk, sound; cold, coldStart.
+-- Defines: placeCount, first, seek, highestX, limitsOk, trainOk, marksOk, absentFrom, placesOk, sound, noMarks, cold, noLimits,
+-- coldStart.
 use Prim.Native.Nat.{ℕ, suc}
 use mathlib.Core.Bool.{Bool, true, false, cond, _&&_, not}
 use mathlib.Core.List.{List, [], _∷_}

@@ -1,6 +1,7 @@
 -- Document 01, "Rules of one step": one step on values, for every kind of event.
--- Defines: Outcome, refused, done; withTrain, withMarks, withPlaces; levelled, holed, shut, shutting, sweep, missioned;
--- inForce, spend, displaced, ordered; called; turnedAt, turned, namedAt; step.
+-- Defines: Outcome, refused, done, withTrain, withMarks, withPlaces, act, markManual, levelled, markMode, markHole, holeTaken,
+-- holed, actionsIn, shut, shutting, sweep, withMission, missioned, radioLevel, inForce, spend, displaced, takenIn, orderedAt,
+-- ordered, calledAt, called, turnedAt, turned, namedAt, step.
 use Prim.Native.Nat.{ℕ}
 use mathlib.Core.Bool.{Bool, true, false, cond, _&&_, _||_, not}
 use mathlib.Core.List.{List, [], _∷_, _++_, map}

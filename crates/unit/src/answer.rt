@@ -8,7 +8,6 @@ use crate::state::State;
 use place::turn::RELEASE;
 use place::turn::Turn;
 use record::partner::Partner;
-use record::refusal::ACCEPTED;
 
 // The most actions of one step.
 pub const MOST_ACTIONS: usize = 4;

@@ -4,8 +4,8 @@ ghost use Prim.Native.Nat.{_+_, _≤_};
 ghost use lib.ListN.{length, take};
 ghost use lib.Seq.{sets};
 ghost use Rattle.place.specs.Places.{tryLimit};
-ghost use Rattle.unit.specs.OnRecords.{bytesOf, written, onRecord};
-ghost use Rattle.unit.specs.Forms.{stepped};
+ghost use Rattle.unit.specs.OnRecords.{actionSize, actionRoom, bytesOf, written, onRecord};
+ghost use Rattle.unit.specs.Forms.{mostActions, stepped};
 use crate::answer::Action;
 use crate::answer::Actions;
 use crate::answer::Stepped;
@@ -22,7 +22,7 @@ pub const ACTION_ROOM: usize = 20;
 
 // Writes an action's five bytes.
 fn put(s: &mut [u8], at: usize, action: Action)
-    requires { ⌜ at + 5 ≤ length (now s) ⌝ }
+    requires { ⌜ at + actionSize ≤ length (now s) ⌝ }
     ensures { λ r. ⌜ now (s .exit) ≡ sets (now (s .entry)) at (bytesOf action) ⌝ }
 {
     let partner = action.partner;
@@ -35,7 +35,7 @@ fn put(s: &mut [u8], at: usize, action: Action)
 
 // Writes the actions one after the other; later bytes stay.
 fn put_all(s: &mut [u8], actions: Actions)
-    requires { ⌜ (actions .count ≤ 4) × (20 ≤ length (now s)) ⌝ }
+    requires { ⌜ (actions .count ≤ mostActions) × (actionRoom ≤ length (now s)) ⌝ }
     ensures { λ r. ⌜ now (s .exit) ≡ written (take (actions .count) (actions .items)) (now (s .entry)) ⌝ }
 {
     let count = actions.count;

@@ -6,6 +6,7 @@ ghost use mathlib.Core.List.{[], map};
 ghost use lib.ListN.{getD, set};
 ghost use Rattle.place.specs.Places.{tryLimit, vacant};
 ghost use Rattle.place.specs.Table.{numbers, placeTurn};
+ghost use Rattle.unit.specs.States.{placeCount};
 ghost use Rattle.unit.specs.Steps.{refused, done, act, withTrain, withMarks, withPlaces, sweep, takenIn, turned, step};
 ghost use Rattle.place.specs.declared.turn.Due.the-variants.{Every};
 ghost use Rattle.unit.specs.Forms.{noted, carried};
@@ -41,7 +42,7 @@ use record::test::or;
 
 // A step before it is carried out: 0 or the number of the refusal; the train and the marks after it; which places are closed;
 // then the place that is set, if its number is one of the four, and the partner and turn whose actions are sent last.
-pub struct Change {
+pub(crate) struct Change {
     pub code: u8,
     pub train: Train,
     pub marks: Marks,
@@ -251,7 +252,7 @@ impl State {
 
     // What an event that names this partner makes of its place.
     fn turn(self, at: usize, partner: Partner, event: PartnerEvent) -> Change
-        requires { ⌜ at < 4 ⌝ }
+        requires { ⌜ at < placeCount ⌝ }
         ensures { λ r. ⌜ carried self r ≡ turned self at partner (placeTurn tryLimit (self .limits) (getD (self .places) at vacant) event) ⌝ }
     {
         let limits = self.limits;

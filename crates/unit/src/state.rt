@@ -3,7 +3,7 @@ ghost use mathlib.Core.Path.{_≡_};
 ghost use Prim.Native.Nat.{_+_, _≤_, _<_};
 ghost use lib.ListN.{drop, getD};
 ghost use Rattle.place.specs.Places.{vacant, isFree, holds, tryLimit};
-ghost use Rattle.unit.specs.States.{first, seek, limitsOk, trainOk, marksOk, absentFrom, placesOk, sound, cold, coldStart};
+ghost use Rattle.unit.specs.States.{placeCount, first, seek, limitsOk, trainOk, marksOk, absentFrom, placesOk, sound, cold, coldStart};
 use crate::answer::Started;
 use place::seat::Holding;
 use place::seat::Place;
@@ -121,7 +121,7 @@ pub fn cold_start(limits: Limits) -> Started
 impl State {
     // The number of the lowest place from this one on that holds the partner; 4 where none does.
     fn place_from(self, partner: Partner, from: usize) -> usize
-        requires { ⌜ from ≤ 4 ⌝ }
+        requires { ⌜ from ≤ placeCount ⌝ }
         ensures { λ r. ⌜ r ≡ from + first (holds partner) (drop from (self .places)) ⌝ }
     {
         let mut i = from;
@@ -171,7 +171,7 @@ impl State {
 
     // Whether no higher place holds the partner of this one.
     fn absent_above(self, i: usize) -> bool
-        requires { ⌜ i < 4 ⌝ }
+        requires { ⌜ i < placeCount ⌝ }
         ensures { λ r. ⌜ r ≡ absentFrom (drop (i + 1) (self .places)) (getD (self .places) i vacant .holding) ⌝ }
     {
         let place = self.places[i];

@@ -4,7 +4,7 @@ ghost use Prim.Native.Nat.{_≤_};
 ghost use lib.ListN.{length};
 ghost use Rattle.place.specs.Places.{tryLimit};
 ghost use Rattle.unit.specs.Steps.{sweep, step};
-ghost use Rattle.unit.specs.Forms.{closes, settled, carried, packed};
+ghost use Rattle.unit.specs.Forms.{mostActions, closes, settled, carried, packed};
 use crate::answer::Actions;
 use crate::answer::Answer;
 use crate::change::Change;
@@ -69,7 +69,7 @@ impl State {
 
     // The closings of a change, then the rest of it.
     fn sweep_and_settle(self, change: Change) -> Answer
-        requires { ⌜ length (carried self change .actions) ≤ 4 ⌝ }
+        requires { ⌜ length (carried self change .actions) ≤ mostActions ⌝ }
         ensures { λ r. ⌜ r ≡ packed (carried self change) ⌝ }
     {
         let which = change.which;

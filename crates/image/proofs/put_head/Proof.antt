@@ -45,11 +45,8 @@ slice-write-s-8 c = simp length-set (omega (arith, c .before .before .before .be
 slice-write-s-9 : tie.Need-slice-write-s-9
 slice-write-s-9 c = simp length-set (omega (arith, c .before .before .before .before .before .before .before .before .before .before .before .before .pre .0))
 
-same-length : tie.Need-same-length
-same-length c = simp length-set
-
 returns : tie.Need-returns
 returns c = λ i. set (set (set (set (set (set (set (set (set (now (c .before .before .before .before .before .before .before .before .before .before .before .before .args .s)) 0 imageKind) 1 (c .before .before .before .before .before .before .before .narrow .ensures i)) 2 (c .before .before .before .before .before .before .narrow2 .ensures i)) 3 (c .before .before .before .before .before .narrow3 .ensures i)) 4 (c .before .before .before .before .narrow4 .ensures i)) 5 (c .before .before .before .mark-byte .ensures i)) 6 (c .before .before .mark-byte2 .ensures i)) 7 (c .before .mark-byte3 .ensures i)) 8 (c .mark-byte4 .ensures i)
 
 pub put-head-spec : {M : Type 1} → statement M
-put-head-spec = tie.close (tie.spec (λ c. search needs) narrow-requires slice-write-s-2 narrow-requires-2 slice-write-s-3 narrow-requires-3 slice-write-s-4 narrow-requires-4 slice-write-s-5 (λ c κs. search needs) slice-write-s-6 (λ c κs. search needs) slice-write-s-7 (λ c κs. search needs) slice-write-s-8 (λ c κs. search needs) slice-write-s-9 same-length returns)
+put-head-spec = tie.close (tie.spec (λ c. search needs) narrow-requires slice-write-s-2 narrow-requires-2 slice-write-s-3 narrow-requires-3 slice-write-s-4 narrow-requires-4 slice-write-s-5 (λ c κs. search needs) slice-write-s-6 (λ c κs. search needs) slice-write-s-7 (λ c κs. search needs) slice-write-s-8 (λ c κs. search needs) slice-write-s-9 (λ c. simp length-set) returns)

@@ -5,13 +5,13 @@ use mathlib.Core.List.{[], _∷_, _++_}
 use lib.ListN.{take}
 use Rattle.record.specs.Blocks.{blocks}
 use Rattle.text.specs.Texts.{space, newline, decimal, actionText, lineText, texted, pushed, pushes}
-use Rattle.text.proofs.Pushing.{pushes-append}
+use Rattle.text.proofs.Pushing.{pushes-line}
 use Rattle.text.proofs.line.Statement.{statement}
 use Rattle.text.proofs.line.Tie as tie
 
 returns : tie.Need-returns
-unfolding lineText pushes
-returns c = c .push .ensures ∙ ap (λ t. pushed t newline) (c .before .actions .ensures ∙ ap (λ t. pushes t (blocks actionText (take (c .before .before .before .before .before .before .before .before .args .actions .count) (c .before .before .before .before .before .before .before .before .args .actions .items)))) (c .before .before .field2 .ensures ∙ ap₂ (λ t n. pushes t (space ∷ decimal n)) (c .before .before .before .before .field .ensures ∙ ap₂ (λ t n. pushes t (space ∷ decimal n)) (c .before .before .before .before .before .before .number .ensures ∙ ap (λ t. pushes t (decimal (c .before .before .before .before .before .before .before .before .args .number))) (c .before .before .before .before .before .before .before .empty .ensures)) (c .before .before .before .before .before .word .ensures)) (c .before .before .before .word2 .ensures))) ∙ sym (pushes-append (texted []) (decimal (c .before .before .before .before .before .before .before .before .args .number)) ((space ∷ decimal (c .before .before .before .before .before .before .before .before .args .kind)) ++ ((space ∷ decimal (c .before .before .before .before .before .before .before .before .args .code)) ++ ((blocks actionText (take (c .before .before .before .before .before .before .before .before .args .actions .count) (c .before .before .before .before .before .before .before .before .args .actions .items))) ++ (newline ∷ [])))) ∙ pushes-append (pushes (texted []) (decimal (c .before .before .before .before .before .before .before .before .args .number))) (space ∷ decimal (c .before .before .before .before .before .before .before .before .args .kind)) ((space ∷ decimal (c .before .before .before .before .before .before .before .before .args .code)) ++ ((blocks actionText (take (c .before .before .before .before .before .before .before .before .args .actions .count) (c .before .before .before .before .before .before .before .before .args .actions .items))) ++ (newline ∷ []))) ∙ pushes-append (pushes (pushes (texted []) (decimal (c .before .before .before .before .before .before .before .before .args .number))) (space ∷ decimal (c .before .before .before .before .before .before .before .before .args .kind))) (space ∷ decimal (c .before .before .before .before .before .before .before .before .args .code)) ((blocks actionText (take (c .before .before .before .before .before .before .before .before .args .actions .count) (c .before .before .before .before .before .before .before .before .args .actions .items))) ++ (newline ∷ [])) ∙ pushes-append (pushes (pushes (pushes (texted []) (decimal (c .before .before .before .before .before .before .before .before .args .number))) (space ∷ decimal (c .before .before .before .before .before .before .before .before .args .kind))) (space ∷ decimal (c .before .before .before .before .before .before .before .before .args .code))) (blocks actionText (take (c .before .before .before .before .before .before .before .before .args .actions .count) (c .before .before .before .before .before .before .before .before .args .actions .items))) (newline ∷ []))
+unfolding lineText
+returns c = c .push .ensures ∙ ap (λ t. pushed t newline) (c .before .actions .ensures ∙ ap (λ t. pushes t (blocks actionText (take (c .before .before .before .before .before .before .before .before .args .actions .count) (c .before .before .before .before .before .before .before .before .args .actions .items)))) (c .before .before .field2 .ensures ∙ ap₂ (λ t n. pushes t (space ∷ decimal n)) (c .before .before .before .before .field .ensures ∙ ap₂ (λ t n. pushes t (space ∷ decimal n)) (c .before .before .before .before .before .before .number .ensures ∙ ap (λ t. pushes t (decimal (c .before .before .before .before .before .before .before .before .args .number))) (c .before .before .before .before .before .before .before .empty .ensures)) (c .before .before .before .before .before .word .ensures)) (c .before .before .before .word2 .ensures))) ∙ pushes-line _ _ _ _ _ _
 
 pub line-spec : {M : Type 1} → statement M
 line-spec = tie.close (tie.spec (λ c κs. search needs) (λ c κs. search needs) (λ c κs. search needs) (λ c κs. search needs) (λ c κs. search needs) (λ c κs. search needs) (λ c κs. search needs) (λ c κs. search needs) returns)
