@@ -1,3 +1,4 @@
+pub mod AllRecords
 pub mod Tallies
 pub mod Takes
 pub mod Applied

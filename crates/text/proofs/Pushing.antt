@@ -1,6 +1,6 @@
 -- Characters pushed one after the other, and the text put into a buffer.
--- Proves: pushes-append, pushes-next, pushes-action, pushes-text, texted-take, placed-more, placed-none, placed-all, placed-text,
--- placed-used.
+-- Proves: pushes-append, pushes-three, pushes-line, pushes-end, pushes-next, pushes-action, pushes-text, texted-take, placed-more,
+-- placed-none, placed-all, placed-text, placed-used.
 use mathlib.Core.Path.{_≡_, refl, sym, ap, ap₂, _∙_}
 use mathlib.Core.List.{List, [], _∷_, _++_, append-nil, append-assoc}
 use Prim.Native.Nat.{ℕ, suc, _+_, _≤_, _<_}
