@@ -1,0 +1,56 @@
+-- Where each event is taken, and what none passes by.
+-- Proves: profile-idle, start-in-force, acknowledgement-asked, expiry-late.
+use mathlib.Core.Path.{_≡_, refl}
+use mathlib.Core.Bool.{true, false, true≢false}
+use native.Mathlib.Omega.{arith}
+use lib.Dec.{eqb}
+use Rattle.onsight.specs.Numbers.{accepted}
+use Rattle.onsight.specs.Procedures.{cell, step, osInForce}
+use Rattle.onsight.specs.Histories.{isIdle, isLate, isProfile, isExpiry, asksForAcknowledgement}
+use Rattle.onsight.specs.declared.event.Event.{Event}
+use Rattle.onsight.specs.declared.event.Event.the-variants.{Start, Acknowledgement, Expiry}
+use Rattle.onsight.specs.declared.procedure.State.{State}
+use Rattle.onsight.specs.declared.procedure.State.the-variants.{Idle, Waiting, Asked, Late, Braking, Done}
+use Rattle.onsight.proofs.WholeTable.{taken-rule, by-cell}
+
+-- "Idle takes only this": what is taken is a profile in Idle, and nowhere else
+-- promise
+pub profile-idle : (s : State) (e : Event)
+    → step s e .code ≡ accepted
+    → isProfile e ≡ isIdle s
+profile-idle s e =
+    by-cell (λ a. a .code ≡ accepted → isProfile e ≡ isIdle s) s (cell s e)
+    (λ is h. absurd (omega arith))
+    (λ next gives h. taken-rule (λ s e next. isProfile e) (λ s e. isIdle s) refl s e next gives)
+
+-- "the safe front passing the start gives Late": once a profile has come, nobody passes the start without OS in force
+-- promise
+pub start-in-force : (s : State)
+    → isIdle s ≡ false
+    → osInForce (step s Start .state) ≡ true
+start-in-force Idle h = absurd (true≢false h)
+start-in-force Waiting h = refl
+start-in-force Asked h = refl
+start-in-force Late h = refl
+start-in-force Braking h = refl
+start-in-force Done h = refl
+
+-- "Asked, Late and Braking: driver acknowledgement": accepted there and nowhere else
+-- promise
+pub acknowledgement-asked : (s : State) → eqb (step s Acknowledgement .code) accepted ≡ asksForAcknowledgement s
+acknowledgement-asked Idle = refl
+acknowledgement-asked Waiting = refl
+acknowledgement-asked Asked = refl
+acknowledgement-asked Late = refl
+acknowledgement-asked Braking = refl
+acknowledgement-asked Done = refl
+
+-- "Late: timer expiry": accepted there and nowhere else
+-- promise
+pub expiry-late : (s : State) → eqb (step s Expiry .code) accepted ≡ isLate s
+expiry-late Idle = refl
+expiry-late Waiting = refl
+expiry-late Asked = refl
+expiry-late Late = refl
+expiry-late Braking = refl
+expiry-late Done = refl

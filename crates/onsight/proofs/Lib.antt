@@ -1,0 +1,12 @@
+pub mod Alike
+pub mod WholeTable
+pub mod Histories
+pub mod AfterExpiry
+pub mod Brake
+pub mod InForce
+pub mod ByEvent
+pub mod Numbered
+pub mod Longest
+pub mod Refusals
+pub mod Known
+pub mod OneAnswer

@@ -1,0 +1,82 @@
+-- A procedure accepts at most five events; no state is a trap, and none is out of reach.
+-- Proves: most-accepted, longest-accepted, reached, leads-to-done.
+use mathlib.Core.Path.{_≡_, refl}
+use mathlib.Core.Bool.{true, cond}
+use mathlib.Core.List.{List, [], _∷_}
+use Prim.Native.Nat.{ℕ, _≤_, _<_}
+use native.Mathlib.Omega.{arith}
+use lib.Dec.{eqb, ltb}
+use lib.ListN.{length}
+use borrow.Author.Tests.{ltb-true}
+use Rattle.onsight.specs.Numbers.{accepted}
+use Rattle.onsight.specs.Procedures.{cell, fresh}
+use Rattle.onsight.specs.Histories.{met, endOf, after, acceptedOf, acceptedIn, mostAccepted, longest, wayTo, wayToDone}
+use Rattle.onsight.specs.declared.event.Event.{Event}
+use Rattle.onsight.specs.declared.procedure.State.{State}
+use Rattle.onsight.specs.declared.procedure.State.the-variants.{Idle, Waiting, Asked, Late, Braking, Done}
+use Rattle.onsight.specs.declared.procedure.Cell.the-variants.{To}
+use Rattle.onsight.proofs.WholeTable.{taken-rule, by-cell}
+
+-- how many events can still be accepted
+abbrev left : State → ℕ
+left Idle = 5
+left Waiting = 4
+left Asked = 3
+left Late = 2
+left Braking = 1
+left Done = 0
+
+-- each event that is taken leaves fewer
+left-less : (s : State) (e : Event) (next : State) → cell s e ≡ To next → left next < left s
+left-less s e next gives =
+    ltb-true (left next) (left s) (taken-rule (λ s e next. ltb (left next) (left s)) (λ s e. true) refl s e next gives)
+
+accepted-left : (s : State) (es : List Event) → length (acceptedIn s es) ≤ left s
+unfolding met acceptedOf
+accepted-left s [] = omega arith
+accepted-left s (e ∷ es) =
+    by-cell
+    (λ a. length
+    (cond (eqb (a .code) accepted)
+    (record { state = s; event = e; answer = a } ∷ acceptedIn (a .state) es)
+    (acceptedIn (a .state) es))
+    ≤ left s)
+    s
+    (cell s e)
+    (λ is. accepted-left s es)
+    (λ next gives.
+    let rest = accepted-left next es in
+    let less = left-less s e next gives in
+    omega arith)
+
+-- promise
+pub most-accepted : (es : List Event) → length (acceptedIn fresh es) ≤ mostAccepted
+most-accepted es = accepted-left fresh es
+
+-- a history that reaches five
+-- promise
+pub longest-accepted : length (acceptedIn fresh longest) ≡ mostAccepted
+unfolding met acceptedOf
+longest-accepted = refl
+
+-- every state is reached from a fresh Idle
+-- promise
+pub reached : (s : State) → after fresh (wayTo s) ≡ s
+unfolding met endOf
+reached Idle = refl
+reached Waiting = refl
+reached Asked = refl
+reached Late = refl
+reached Braking = refl
+reached Done = refl
+
+-- from every state a history leads to Done
+-- promise
+pub leads-to-done : (s : State) → after s (wayToDone s) ≡ Done
+unfolding met endOf
+leads-to-done Idle = refl
+leads-to-done Waiting = refl
+leads-to-done Asked = refl
+leads-to-done Late = refl
+leads-to-done Braking = refl
+leads-to-done Done = refl

@@ -1,0 +1,28 @@
+-- Event by event.
+use borrow.Author.Needs.{needs}
+use Rattle.onsight.proofs.Known.{told}
+use Rattle.onsight.proofs.procedure.State.cell.Statement.{statement}
+use Rattle.onsight.proofs.procedure.State.cell.Tie as tie
+
+returns : tie.Need-returns
+returns c = told (c .before .before .before .before .args .self) (c .before .before .event .given .1) (c .at-profile .ensures)
+
+pub cell-spec : {M : Type 1} → statement M
+cell-spec =
+    tie.close
+    (tie.spec
+    (λ c. search needs)
+    (λ c κs. search needs)
+    (λ c. search needs)
+    (λ c κs. search needs)
+    (λ c. search needs)
+    (λ c κs. search needs)
+    (λ c. search needs)
+    (λ c κs. search needs)
+    (λ c. search needs)
+    (λ c κs. search needs)
+    returns
+    (λ c. search needs)
+    (λ c. search needs)
+    (λ c. search needs)
+    (λ c. search needs))
