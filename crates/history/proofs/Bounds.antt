@@ -4,25 +4,26 @@
 -- Proves: worths-balanced, bound-from, bound, bound-of, demand-bound, demand-bound-of.
 use mathlib.Core.Path.{_≡_, refl}
 use mathlib.Core.Bool.{true}
-use mathlib.Core.List.{List, [], _∷_}
+use mathlib.Core.List.{List}
 use Prim.Native.Nat.{ℕ, _+_, _*_, _≤_}
 use native.Mathlib.Omega.{arith}
 use lib.ListN.{length}
 use Rattle.record.specs.Partners.{samePartner}
 use Rattle.record.specs.Records.{reading}
-use Rattle.record.specs.Refusals.{accepted}
+use Rattle.wire.specs.Refusals.{accepted}
 use Rattle.record.specs.declared.partner.Partner.{Partner}
 use Rattle.place.specs.Places.{tryLimit}
 use Rattle.place.specs.declared.phase.Phase.{Phase}
-use Rattle.place.specs.declared.turn.Limits.{Limits}
+use Rattle.place.specs.declared.limits.Limits.{Limits}
 use Rattle.unit.specs.States.{coldStart}
 use Rattle.unit.specs.OnRecords.{actionRoom, onRecord}
 use Rattle.unit.specs.declared.state.State.{State}
-use Rattle.unit.specs.declared.answer.Action.{Action}
-use Rattle.history.specs.Histories.{after, orders, calls, losses, actions, count, names, perOrder, perCall, perLoss, actionsOf, ordersOf, callsOf, lossesOf}
-use Rattle.history.proofs.Balances.{atMost}
-use Rattle.history.proofs.Scales.{Scale, Balanced}
-use Rattle.history.proofs.Accounts.{total}
+use Rattle.unit.specs.Kept.{count}
+use Rattle.history.specs.Histories.{after, orders, calls, losses, actions, names, perOrder, perCall, perLoss, actionsOf, ordersOf, callsOf, lossesOf}
+use Rattle.unit.proofs.Counts.{count-all}
+use Rattle.unit.proofs.Balances.{atMost}
+use Rattle.unit.proofs.Scales.{Scale, Balanced}
+use Rattle.unit.proofs.StepAccounts.{total}
 use Rattle.history.proofs.Counted.{summed-same, whose-any, whose-one, and-true, rated-account}
 use Rattle.history.proofs.Along.{cold-light}
 use Rattle.history.proofs.Falling.{Numbers, falling, fallings, falling-balanced}
@@ -55,17 +56,12 @@ worths n = fallings n (worthNumbers n)
 pub worths-balanced : (n : ℕ) → 1 ≤ n → Balanced atMost n (worths n)
 worths-balanced n some-try = falling-balanced n (worthNumbers n) some-try (omega arith)
 
--- each action counts one
-count-all : (acts : List Action) → count (λ a. true) acts ≡ length acts
-unfolding count
-count-all [] = refl
-count-all (a ∷ acts) =
-    let rest = count-all acts in
-    omega arith
-
 module _ (n : ℕ) (some-try : 1 ≤ n) where
   -- from every state: what its places are worth comes on top
-  pub bound-from : (s : State) (history : List (List ℕ)) → actions n s history + total (worths n) (λ p. true) (after n s history .places) ≤ total (worths n) (λ p. true) (s .places) + (perOrder n * orders n s history + (perCall n * calls n s history + perLoss n * losses n s history))
+  pub bound-from : (s : State) (history : List (List ℕ))
+      → actions n s history + total (worths n) (λ p. true) (after n s history .places)
+      ≤ total (worths n) (λ p. true) (s .places)
+      + (perOrder n * orders n s history + (perCall n * calls n s history + perLoss n * losses n s history))
   bound-from s history =
       let account =
       rated-account (worth n) (λ number. true) (perOrder n) (perCall n) (perLoss n) (λ p. true) (λ bytes. true) (λ bytes. whose-any (reading bytes)) n atMost
@@ -75,14 +71,26 @@ module _ (n : ℕ) (some-try : 1 ≤ n) where
 
   -- from a cold start, no more actions than these
   -- promise
-  pub bound : (l : Limits) → coldStart l .code ≡ accepted → (history : List (List ℕ)) → actions n (coldStart l .state) history ≤ perOrder n * orders n (coldStart l .state) history + perCall n * calls n (coldStart l .state) history + perLoss n * losses n (coldStart l .state) history
+  pub bound : (l : Limits)
+      → coldStart l .code ≡ accepted
+      → (history : List (List ℕ))
+      → actions n (coldStart l .state) history
+      ≤ perOrder n * orders n (coldStart l .state) history
+      + perCall n * calls n (coldStart l .state) history
+      + perLoss n * losses n (coldStart l .state) history
   bound l started history =
       let most = bound-from (coldStart l .state) history in
       let none = cold-light (worths n) (λ p. true) l in
       omega arith
 
   -- and none for a partner but by its own orders, calls and losses
-  pub bound-of : (p : Partner) (l : Limits) → coldStart l .code ≡ accepted → (history : List (List ℕ)) → actionsOf p n (coldStart l .state) history ≤ perOrder n * ordersOf p n (coldStart l .state) history + perCall n * callsOf p n (coldStart l .state) history + perLoss n * lossesOf p n (coldStart l .state) history
+  pub bound-of : (p : Partner) (l : Limits)
+      → coldStart l .code ≡ accepted
+      → (history : List (List ℕ))
+      → actionsOf p n (coldStart l .state) history
+      ≤ perOrder n * ordersOf p n (coldStart l .state) history
+      + perCall n * callsOf p n (coldStart l .state) history
+      + perLoss n * lossesOf p n (coldStart l .state) history
   bound-of p l started history =
       let account =
       rated-account (worth n) (λ number. true) (perOrder n) (perCall n) (perLoss n) (samePartner p) (names p) (λ bytes. whose-one p (reading bytes)) n atMost
@@ -92,9 +100,21 @@ module _ (n : ℕ) (some-try : 1 ≤ n) where
 
 -- with the three tries of document 01
 -- promise
-pub demand-bound : (l : Limits) → coldStart l .code ≡ accepted → (history : List (List ℕ)) → actions tryLimit (coldStart l .state) history ≤ 11 * orders tryLimit (coldStart l .state) history + 5 * calls tryLimit (coldStart l .state) history + 3 * losses tryLimit (coldStart l .state) history
+pub demand-bound : (l : Limits)
+    → coldStart l .code ≡ accepted
+    → (history : List (List ℕ))
+    → actions tryLimit (coldStart l .state) history
+    ≤ 11 * orders tryLimit (coldStart l .state) history
+    + 5 * calls tryLimit (coldStart l .state) history
+    + 3 * losses tryLimit (coldStart l .state) history
 demand-bound = bound tryLimit (omega arith)
 
 -- promise
-pub demand-bound-of : (p : Partner) (l : Limits) → coldStart l .code ≡ accepted → (history : List (List ℕ)) → actionsOf p tryLimit (coldStart l .state) history ≤ 11 * ordersOf p tryLimit (coldStart l .state) history + 5 * callsOf p tryLimit (coldStart l .state) history + 3 * lossesOf p tryLimit (coldStart l .state) history
+pub demand-bound-of : (p : Partner) (l : Limits)
+    → coldStart l .code ≡ accepted
+    → (history : List (List ℕ))
+    → actionsOf p tryLimit (coldStart l .state) history
+    ≤ 11 * ordersOf p tryLimit (coldStart l .state) history
+    + 5 * callsOf p tryLimit (coldStart l .state) history
+    + 3 * lossesOf p tryLimit (coldStart l .state) history
 demand-bound-of = bound-of tryLimit (omega arith)

@@ -9,8 +9,9 @@ use native.Mathlib.Omega.{arith}
 use lib.Dec.{eqb, leb}
 use lib.ListN.{length}
 use borrow.Author.Tests.{eqb-true, ne-eqb, leb-true}
-use Rattle.record.specs.Records.{Body, byte, messageVersion, messageCall, messageMeans, partnerIn, levelBody, missionBody, modeBody, holeBody, orderBody, partnerBody, endAllBody, messageBody, known, lengthOf, bodies, bodyOf, noBody, reading}
-use Rattle.record.specs.Refusals.{accepted, wrongLength, unknownKind, outOfRange, notSound}
+use Rattle.record.specs.Records.{Body, messageVersion, messageCall, messageMeans, partnerIn, levelBody, missionBody, modeBody, holeBody, orderBody, partnerBody, endAllBody, messageBody, known, lengthOf, bodies, bodyOf, noBody, reading, readingOk}
+use Rattle.wire.specs.Bytes.{byte}
+use Rattle.wire.specs.Refusals.{accepted, wrongLength, unknownKind, outOfRange, notSound}
 use Rattle.record.specs.declared.partner.Partner.{Partner}
 use Rattle.record.specs.declared.event.PartnerEvent.{PartnerEvent}
 use Rattle.record.specs.declared.event.PartnerEvent.the-variants.{Drop, Up, Loss, Timeout, Version, Ended}
@@ -18,14 +19,14 @@ use Rattle.record.specs.declared.event.Event.{Event}
 use Rattle.record.specs.declared.event.Event.the-variants.{Level, Mission, Mode, Hole, Order, EndAll, Call, Named}
 use Rattle.record.specs.declared.event.Reading.{Reading}
 use Rattle.record.specs.declared.event.Reading.the-variants.{Meant, Refused}
-use Rattle.record.proofs.Tests.{and-left, cond-case, cond-holds, true-false}
-use Rattle.record.proofs.Ranges.{readingOk, reading-ok}
+use Rattle.wire.proofs.Tests.{and-left, cond-case, cond-holds, true-false}
+use Rattle.record.proofs.Ranges.{reading-ok}
 use Rattle.unit.specs.States.{sound}
 use Rattle.unit.specs.Steps.{Outcome, refused}
 use Rattle.unit.specs.OnRecords.{actionRoom, onReading, onRecord}
 use Rattle.unit.specs.declared.state.State.{State}
 use Rattle.history.specs.Histories.{isOrder, isCall, isLoss}
-use Rattle.history.proofs.Rows.{_▹_, Numbered, numbered-at}
+use Rattle.unit.proofs.Rows.{_▹_, Numbered, numbered-at}
 
 -- the events that are counted
 abbrev pub isOrderEvent : Event → Bool
@@ -75,7 +76,11 @@ Tells bytes (Meant e) = TellsEvent bytes e
 Tells bytes (Refused r) = Unit
 
 -- number 38 and no other is a call
-message-tells : (number version : ℕ) (p : Partner) (bytes : List ℕ) → isOrder bytes ≡ false → isCall bytes ≡ eqb number messageCall → isLoss bytes ≡ false → TellsEvent bytes (messageMeans number version p)
+message-tells : (number version : ℕ) (p : Partner) (bytes : List ℕ)
+    → isOrder bytes ≡ false
+    → isCall bytes ≡ eqb number messageCall
+    → isLoss bytes ≡ false
+    → TellsEvent bytes (messageMeans number version p)
 message-tells number version p bytes order call loss =
     cond-case (TellsEvent bytes) (eqb number messageVersion) (Named p (Version version)) (cond (eqb number messageCall) (Call p) (Named p Ended))
     (λ is. (order, call ∙ ap (λ k. eqb k messageCall) (eqb-true number messageVersion is), loss))
@@ -89,7 +94,10 @@ abbrev Row : ℕ → Body → Type 0
 Row kind body = (s : List ℕ) → byte s 0 ≡ kind → body .ranges s ≡ true → TellsEvent s (body .means s)
 
 -- the kind's byte decides, and for a call the number's
-by-first : (kind : ℕ) (body : Body) (s : List ℕ) → byte s 0 ≡ kind → body .ranges s ≡ true → (isOrder s ≡ isOrder (kind ∷ [])) × (isCall s ≡ isCall (kind ∷ 0 ∷ 0 ∷ 0 ∷ 0 ∷ byte s 5 ∷ [])) × (isLoss s ≡ isLoss (kind ∷ []))
+by-first : (kind : ℕ) (body : Body) (s : List ℕ)
+    → byte s 0 ≡ kind
+    → body .ranges s ≡ true
+    → (isOrder s ≡ isOrder (kind ∷ [])) × (isCall s ≡ isCall (kind ∷ 0 ∷ 0 ∷ 0 ∷ 0 ∷ byte s 5 ∷ [])) × (isLoss s ≡ isLoss (kind ∷ []))
 by-first kind body s e ok =
     (ap (λ k. isOrder (k ∷ [])) e, ap (λ k. isCall (k ∷ 0 ∷ 0 ∷ 0 ∷ 0 ∷ byte s 5 ∷ [])) e, ap (λ k. isLoss (k ∷ [])) e)
 

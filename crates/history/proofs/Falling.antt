@@ -8,11 +8,11 @@ use native.Mathlib.Omega.{arith}
 use Rattle.place.specs.Table.{table, closing, play}
 use Rattle.place.specs.declared.phase.Phase.{Phase}
 use Rattle.place.specs.declared.phase.Phase.the-variants.{Connecting, Contacting, Open, Lost, Ending}
-use Rattle.place.specs.declared.turn.Limits.{Limits}
+use Rattle.place.specs.declared.limits.Limits.{Limits}
 use Rattle.place.proofs.ByRow.{judged-case}
-use Rattle.history.proofs.Rows.{_▹_, Beside}
-use Rattle.history.proofs.Balances.{atMost}
-use Rattle.history.proofs.Scales.{Scale, Turned, Balanced, turns-by-row, again-turned}
+use Rattle.unit.proofs.Rows.{_▹_, Beside}
+use Rattle.unit.proofs.Balances.{atMost}
+use Rattle.unit.proofs.Scales.{Scale, Turned, Balanced, turns-by-row, again-turned}
 
 pub record Numbers : Type 0 where
   -- what a place weighs at its last try, by its phase

@@ -11,20 +11,21 @@ use lib.Dec.{leb}
 use borrow.Author.Tests.{leb-true}
 use Rattle.record.specs.Partners.{samePartner, partnerOk}
 use Rattle.record.specs.declared.partner.Partner.{Partner}
-use Rattle.record.proofs.Tests.{and-left, and-right, cond-case, true-false}
-use Rattle.place.specs.Places.{seat, holds, holdsIn, directionOk}
+use Rattle.wire.proofs.Tests.{and-left, and-right, cond-case, true-false}
+use Rattle.place.specs.Places.{seat, holds, fits}
+use Rattle.place.proofs.Holdings.{holdsIn}
 use Rattle.place.specs.declared.phase.Phase.{Phase}
 use Rattle.place.specs.declared.phase.Phase.the-variants.{Connecting, Contacting, Open, Lost, Ending}
-use Rattle.place.specs.declared.seat.Direction.{Direction}
-use Rattle.place.specs.declared.seat.Holding.{Holding}
-use Rattle.place.specs.declared.seat.Holding.the-variants.{Free, Held}
-use Rattle.place.specs.declared.seat.Place.{Place}
-use Rattle.unit.proofs.Weights.{weigh, once, here}
+use Rattle.place.specs.declared.place.Direction.{Direction}
+use Rattle.place.specs.declared.place.Holding.{Holding}
+use Rattle.place.specs.declared.place.Holding.the-variants.{Free, Held}
+use Rattle.place.specs.declared.place.Place.{Place}
+use Rattle.unit.specs.Kept.{here, once, weigh}
 use Rattle.unit.proofs.Facts.{bad, PlacesFacts}
-use Rattle.history.specs.Histories.{one, waitingPhase, waitsIn, waits}
-use Rattle.history.proofs.Balances.{atMost}
-use Rattle.history.proofs.Scales.{Scale, Balanced, weightIn}
-use Rattle.history.proofs.Accounts.{total}
+use Rattle.history.specs.Histories.{one, waitingPhase, waitsAt, waits}
+use Rattle.unit.proofs.Balances.{atMost}
+use Rattle.unit.proofs.Scales.{Scale, Balanced, weightIn}
+use Rattle.unit.proofs.StepAccounts.{total}
 use Rattle.history.proofs.Falling.{Numbers, falling, fallings, falling-balanced}
 
 -- what is left to a place at its last try, n being the limit of tries; what opens a session, or takes a partner in, brings more
@@ -115,14 +116,16 @@ module _ (n : ℕ) (p : Partner) where
 
     -- so has each phase, or its place is not sound
     phase-left : (d : Direction) (ph : Phase) (q : Partner) → left n ph + one (waitingPhase ph) ≤ (n + 1) + bad n (seat d ph q)
-    phase-left d (Connecting t) q = tried t (partnerOk q) (directionOk d (Connecting t) q)
-    phase-left d (Contacting t) q = tried t (partnerOk q) (directionOk d (Contacting t) q)
+    phase-left d (Connecting t) q = tried t (partnerOk q) (fits d (Connecting t) q)
+    phase-left d (Contacting t) q = tried t (partnerOk q) (fits d (Contacting t) q)
     phase-left d Open q = omega arith
-    phase-left d (Lost t) q = tried t (partnerOk q) (directionOk d (Lost t) q)
-    phase-left d (Ending t) q = tried t (partnerOk q) (directionOk d (Ending t) q)
+    phase-left d (Lost t) q = tried t (partnerOk q) (fits d (Lost t) q)
+    phase-left d (Ending t) q = tried t (partnerOk q) (fits d (Ending t) q)
 
     -- to a partner that waits one less is left than to one that does not
-    waits-left : (ps : List Place) → leftTo n p ps + weigh (here (λ place. waitsIn p (place .holding))) ps ≤ (n + 1) * weigh (here (holds p)) ps + weigh (bad n) ps
+    waits-left : (ps : List Place)
+        → leftTo n p ps + weigh (here (waitsAt p)) ps
+        ≤ (n + 1) * weigh (here (holds p)) ps + weigh (bad n) ps
     unfolding weigh
     waits-left [] = omega arith
     waits-left (place ∷ ps) =
@@ -134,17 +137,21 @@ module _ (n : ℕ) (p : Partner) where
         by-test true w v k h = omega arith
         by-test false w v k h = omega arith
 
-        by : (k : Holding) → weightIn (lefts n) (samePartner p) k + one (waitsIn p k) ≤ (n + 1) * one (holdsIn p k) + bad n (record { holding = k })
+        by : (k : Holding)
+            → weightIn (lefts n) (samePartner p) k + one (waitsAt p (record { holding = k })) ≤ (n + 1) * one (holdsIn p k) + bad n (record { holding = k })
         by Free = omega arith
         by (Held d ph q) = by-test (samePartner p q) (waitingPhase ph) (left n ph) (bad n (seat d ph q)) (phase-left d ph q)
 
     -- and it has a place that waits
-    waits-some : (ps : List Place) → waits p ps ≡ true → 1 ≤ weigh (here (λ place. waitsIn p (place .holding))) ps
+    waits-some : (ps : List Place) → waits p ps ≡ true → 1 ≤ weigh (here (waitsAt p)) ps
     unfolding waits weigh
     waits-some [] h = true-false false h refl
-    waits-some (place ∷ ps) h = by (waitsIn p (place .holding)) h (waits-some ps)
+    waits-some (place ∷ ps) h = by (waitsAt p place) h (waits-some ps)
       where
-        by : (b : Bool) → (b || waits p ps) ≡ true → (waits p ps ≡ true → 1 ≤ weigh (here (λ place. waitsIn p (place .holding))) ps) → 1 ≤ one b + weigh (here (λ place. waitsIn p (place .holding))) ps
+        by : (b : Bool)
+            → (b || waits p ps) ≡ true
+            → (waits p ps ≡ true → 1 ≤ weigh (here (waitsAt p)) ps)
+            → 1 ≤ one b + weigh (here (waitsAt p)) ps
         by true h above = omega arith
         by false h above =
             let rest = above h in
@@ -157,7 +164,10 @@ module _ (n : ℕ) (p : Partner) where
     lone (suc (suc held)) w few h = absurd (omega arith)
 
     -- one that waits in a sound state has one place, and no more than the limit is left to it
-    pub waiting-left : (ps : List Place) → PlacesFacts n ps → waits p ps ≡ true → (weigh (here (holds p)) ps ≡ 1) × (leftTo n p ps ≤ n)
+    pub waiting-left : (ps : List Place)
+        → PlacesFacts n ps
+        → waits p ps ≡ true
+        → (weigh (here (holds p)) ps ≡ 1) × (leftTo n p ps ≤ n)
     waiting-left ps facts h =
         let none = facts .0 in
         let some = waits-some ps h in

@@ -1,6 +1,3 @@
-pub mod Rows
-pub mod Balances
-pub mod Scales
 pub mod Accounts
 pub mod Bytes
 pub mod Counted

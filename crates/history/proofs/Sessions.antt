@@ -13,22 +13,22 @@ use Rattle.record.specs.declared.event.PartnerEvent.{PartnerEvent}
 use Rattle.record.specs.declared.event.PartnerEvent.the-variants.{Drop, Up, Loss, Timeout, Version, Ended}
 use Rattle.record.specs.declared.event.Event.the-variants.{Named}
 use Rattle.record.specs.declared.event.Reading.the-variants.{Meant}
-use Rattle.record.proofs.Tests.{and-both}
-use Rattle.place.specs.Places.{tries, vacant, seat, phaseOk, incomingPhase, directionOk}
+use Rattle.wire.proofs.Tests.{and-both}
+use Rattle.place.specs.Places.{tries, vacant, seat, phaseOk, fitsIncoming, fits}
 use Rattle.place.specs.Table.{oneMore, again, turn}
 use Rattle.place.specs.declared.phase.Phase.{Phase}
 use Rattle.place.specs.declared.phase.Phase.the-variants.{Connecting, Contacting, Open, Lost, Ending}
-use Rattle.place.specs.declared.seat.Direction.{Direction}
-use Rattle.place.specs.declared.seat.Direction.the-variants.{Outgoing, Incoming}
-use Rattle.place.specs.declared.turn.Limits.{Limits}
+use Rattle.place.specs.declared.place.Direction.{Direction}
+use Rattle.place.specs.declared.place.Direction.the-variants.{Outgoing, Incoming}
+use Rattle.place.specs.declared.limits.Limits.{Limits}
 use Rattle.place.specs.declared.turn.Turn.{Turn}
 use Rattle.place.specs.declared.turn.Turn.the-variants.{Released, Becomes, Sends}
 use Rattle.unit.specs.States.{first, seek, placesOk, sound, noMarks, cold, coldStart}
-use Rattle.unit.specs.Steps.{act, turned, shut, shutting, step}
-use Rattle.unit.specs.OnRecords.{actionRoom, onRecord}
+use Rattle.unit.specs.Steps.{act, turned, closed, closingActions, step}
+use Rattle.unit.specs.OnRecords.{trace, actionRoom, onRecord}
 use Rattle.unit.specs.declared.state.State.{State}
-use Rattle.history.specs.Histories.{after, isOrder, isCall, isLoss, acceptedAs, perOrder, perCall, perLoss}
-use Rattle.history.specs.Reaching.{started, rbc5, order5, drop5, up5, lost5, timeout5, version5, call5, ended5, retries, lossesIn, closed, ordering, calling}
+use Rattle.history.specs.Histories.{endOf, after, isOrder, isCall, isLoss, acceptedAs, perOrder, perCall, perLoss}
+use Rattle.history.specs.Reaching.{started, rbc5, order5, drop5, up5, lost5, timeout5, version5, call5, ended5, retries, lossesIn, endedLate, ordering, calling}
 use Rattle.history.proofs.Leads.{Leads, stays, begins, goes-on, counted-as}
 
 -- "X 1 to 2"
@@ -48,7 +48,7 @@ box d ph =
 module _ (n : ℕ) (d : Direction) where
   -- the phase is sound in this direction
   abbrev Fit : Phase → Type 0
-  Fit ph = (phaseOk n ph ≡ true) × (directionOk d ph rbc5 ≡ true)
+  Fit ph = (phaseOk n ph ≡ true) × (fits d ph rbc5 ≡ true)
 
   -- and so is the box
   box-sound : (ph : Phase) → Fit ph → sound n (box d ph) ≡ true
@@ -56,12 +56,20 @@ module _ (n : ℕ) (d : Direction) where
   box-sound ph fit = rw (fit .0, fit .1) refl
 
   -- a record that names RBC 5 makes the turn that the table says
-  turns : (ph : Phase) (e : PartnerEvent) (bytes : List ℕ) → Fit ph → reading bytes ≡ Meant (Named rbc5 e) → onRecord n (box d ph) bytes actionRoom ≡ turned (box d ph) 0 rbc5 (turn n oneToTwo ph e)
+  turns : (ph : Phase) (e : PartnerEvent) (bytes : List ℕ)
+      → Fit ph
+      → reading bytes ≡ Meant (Named rbc5 e)
+      → onRecord n (box d ph) bytes actionRoom ≡ turned (box d ph) 0 rbc5 (turn n oneToTwo ph e)
   unfolding onRecord step seek first
   turns ph e bytes fit means = rw (box-sound ph fit, means) refl
 
   -- such a record, then the rest
-  via : (ph : Phase) (e : PartnerEvent) (bytes : List ℕ) (t : Turn) (history : List (List ℕ)) (u : State) (a b c k : ℕ) → Fit ph → reading bytes ≡ Meant (Named rbc5 e) → turn n oneToTwo ph e ≡ t → Leads n (turned (box d ph) 0 rbc5 t .state) history u a b c k → Leads n (box d ph) (bytes ∷ history) u (acceptedAs isOrder bytes (turned (box d ph) 0 rbc5 t) + a) (acceptedAs isCall bytes (turned (box d ph) 0 rbc5 t) + b) (acceptedAs isLoss bytes (turned (box d ph) 0 rbc5 t) + c) (length (turned (box d ph) 0 rbc5 t .actions) + k)
+  via : (ph : Phase) (e : PartnerEvent) (bytes : List ℕ) (t : Turn) (history : List (List ℕ)) (u : State) (a b c k : ℕ)
+      → Fit ph
+      → reading bytes ≡ Meant (Named rbc5 e)
+      → turn n oneToTwo ph e ≡ t
+      → Leads n (turned (box d ph) 0 rbc5 t .state) history u a b c k
+      → Leads n (box d ph) (bytes ∷ history) u (acceptedAs isOrder bytes (turned (box d ph) 0 rbc5 t) + a) (acceptedAs isCall bytes (turned (box d ph) 0 rbc5 t) + b) (acceptedAs isLoss bytes (turned (box d ph) 0 rbc5 t) + c) (length (turned (box d ph) 0 rbc5 t .actions) + k)
   via ph e bytes t history u a b c k fit means turning rest =
       begins n (box d ph) bytes (turned (box d ph) 0 rbc5 t) history u a b c k (turns ph e bytes fit means ∙ ap (turned (box d ph) 0 rbc5) turning) rest
 
@@ -89,7 +97,11 @@ module _ (n : ℕ) (d : Direction) where
         subst (λ t. Leads n (box d (phase 1)) (retries n) (box d (phase t)) 0 0 0 (n - 1)) (omega arith) (timed-out (n - 1) 1 (omega arith) (omega arith))
 
     -- and then the rest
-    retried : 1 ≤ n → (history : List (List ℕ)) (u : State) (a b c k : ℕ) → Leads n (box d (phase n)) history u a b c k → Leads n (box d (phase 1)) (retries n ++ history) u (0 + a) (0 + b) (0 + c) ((n - 1) + k)
+    retried :
+        1 ≤ n
+        → (history : List (List ℕ)) (u : State) (a b c k : ℕ)
+        → Leads n (box d (phase n)) history u a b c k
+        → Leads n (box d (phase 1)) (retries n ++ history) u (0 + a) (0 + b) (0 + c) ((n - 1) + k)
     retried some-try history u a b c k rest =
         goes-on n (box d (phase 1)) (box d (phase n)) u (retries n) history 0 0 0 (n - 1) a b c k (all-tries some-try) rest
 
@@ -97,10 +109,10 @@ module _ (n : ℕ) (d : Direction) where
   within t some most = and-both (leb 1 t) (leb t n) (le-leb 1 t some) (le-leb t n most)
 
   -- a session fits both directions
-  session-fit : (ph : Phase) → phaseOk n ph ≡ true → incomingPhase ph ≡ true → Fit ph
+  session-fit : (ph : Phase) → phaseOk n ph ≡ true → fitsIncoming ph ≡ true → Fit ph
   session-fit ph ok h = (ok, by d)
     where
-      by : (d : Direction) → directionOk d ph rbc5 ≡ true
+      by : (d : Direction) → fits d ph rbc5 ≡ true
       by Outgoing = refl
       by Incoming = h
 
@@ -116,7 +128,7 @@ module _ (n : ℕ) (d : Direction) where
 
   module _ (some-try : 1 ≤ n) where
     -- an open session dropped, its end timed out to the last try, and 39
-    closed-leads : Leads n (box d Open) (closed n) started 0 0 0 (n + 1)
+    closed-leads : Leads n (box d Open) (endedLate n) started 0 0 0 (n + 1)
     unfolding reading turn coldStart cold
     closed-leads =
         counted-as n _ _ _ _ _ _ _ 0 0 0 (n + 1)
@@ -143,9 +155,9 @@ module _ (n : ℕ) (d : Direction) where
         (omega arith)
 
     -- the one, then the other
-    session-leads : (c : ℕ) → Leads n (box d Open) (lossesIn n c ++ closed n) started 0 0 c (n * c + (n + 1))
+    session-leads : (c : ℕ) → Leads n (box d Open) (lossesIn n c ++ endedLate n) started 0 0 c (n * c + (n + 1))
     session-leads c =
-        counted-as n _ _ _ _ _ _ _ 0 0 c (n * c + (n + 1)) (goes-on n _ _ _ (lossesIn n c) (closed n) _ _ _ _ _ _ _ _ (losses-lead c) closed-leads)
+        counted-as n _ _ _ _ _ _ _ 0 0 c (n * c + (n + 1)) (goes-on n _ _ _ (lossesIn n c) (endedLate n) _ _ _ _ _ _ _ _ (losses-lead c) closed-leads)
         refl
         refl
         (omega arith)
@@ -172,12 +184,12 @@ module _ (n : ℕ) (some-try : 1 ≤ n) where
 
   -- a place is held through all tries but one
   pub connecting-holds : after n (after n started (order5 ∷ [])) (retries n) ≡ box Outgoing (Connecting n)
-  unfolding reading turn first seek placesOk sound cold coldStart shut shutting step onRecord after
+  unfolding reading turn first seek placesOk sound cold coldStart closed closingActions step onRecord after endOf trace
   connecting-holds = all-tries n Outgoing Connecting 21 connecting-fit (λ t. try-again n Outgoing 21 (Connecting t)) some-try .ends
 
   -- a session that an order asks for
   pub ordering-leads : (c : ℕ) → Leads n started (ordering n c) started 1 0 c (perOrder n + perLoss n * c)
-  unfolding reading turn first seek placesOk sound cold coldStart shut shutting step onRecord ordering
+  unfolding reading turn first seek placesOk sound cold coldStart closed closingActions step onRecord ordering
   ordering-leads c =
       counted-as n _ _ _ _ _ _ _ 1 0 c (perOrder n + perLoss n * c)
       (begins n started order5 (record { code = 0; state = box Outgoing (Connecting 1); actions = act rbc5 21 ∷ [] }) _ _ _ _ _ _ refl

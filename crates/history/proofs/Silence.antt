@@ -9,7 +9,7 @@ use native.Mathlib.Omega.{arith}
 use lib.Dec.{eqb}
 use Rattle.record.specs.Partners.{samePartner}
 use Rattle.record.specs.Records.{reading}
-use Rattle.record.specs.Refusals.{accepted}
+use Rattle.wire.specs.Refusals.{accepted}
 use Rattle.record.specs.declared.partner.Partner.{Partner}
 use Rattle.record.specs.declared.event.PartnerEvent.{PartnerEvent}
 use Rattle.record.specs.declared.event.PartnerEvent.the-variants.{Drop, Up, Loss, Timeout, Version, Ended}
@@ -17,14 +17,17 @@ use Rattle.record.specs.declared.event.Event.{Event}
 use Rattle.record.specs.declared.event.Event.the-variants.{Level, Mission, Mode, Hole, Order, EndAll, Call, Named}
 use Rattle.record.specs.declared.event.Reading.{Reading}
 use Rattle.record.specs.declared.event.Reading.the-variants.{Meant, Refused}
-use Rattle.record.proofs.Tests.{and-left, and-right, true-false}
+use Rattle.wire.proofs.Tests.{and-left, and-right, true-false}
 use Rattle.unit.specs.Steps.{Outcome}
-use Rattle.unit.specs.OnRecords.{actionRoom, onRecord}
+use Rattle.unit.specs.OnRecords.{trace, actionRoom, onRecord}
 use Rattle.unit.specs.declared.state.State.{State}
-use Rattle.history.specs.Histories.{after, summed, count, eventNames, isTimeout, eventTimeout, ofReading, names, timeoutFor, silent}
-use Rattle.history.proofs.Balances.{Sense, Balance, moved}
-use Rattle.history.proofs.Scales.{Scale, Balanced, brings, counted, nothing}
-use Rattle.history.proofs.Accounts.{total, brought, ofMeant, received, record-account, history-account}
+use Rattle.unit.specs.Kept.{count}
+use Rattle.history.specs.Histories.{sumOver, after, summed, eventNames, isTimeout, eventTimeout, ofReading, names, timeoutFor, silent}
+use Rattle.unit.proofs.Counts.{nothing}
+use Rattle.unit.proofs.Balances.{Sense, Balance, moved}
+use Rattle.unit.proofs.Scales.{Scale, Balanced, brings, counted}
+use Rattle.unit.proofs.StepAccounts.{total, brought}
+use Rattle.history.proofs.Accounts.{ofMeant, received, record-account, history-account}
 
 -- the record names the partner by a timeout, or not at all
 abbrev pub quiet : Partner → List ℕ → Bool
@@ -63,7 +66,9 @@ module _ (σ : Scale) (p : Partner) (free : brings σ Timeout ≡ 0) where
   record-brings : (bytes : List ℕ) → quiet p bytes ≡ true → ofMeant (brought σ (samePartner p)) (reading bytes) ≡ 0
   record-brings bytes = by (reading bytes)
     where
-      by : (r : Reading) → (not (ofReading (eventNames p) r) || ofReading (eventTimeout p) r) ≡ true → ofMeant (brought σ (samePartner p)) r ≡ 0
+      by : (r : Reading)
+          → (not (ofReading (eventNames p) r) || ofReading (eventTimeout p) r) ≡ true
+          → ofMeant (brought σ (samePartner p)) r ≡ 0
       by (Meant e) h = event-brings e h
       by (Refused r) h = refl
 
@@ -71,8 +76,10 @@ module _ (σ : Scale) (p : Partner) (free : brings σ Timeout ≡ 0) where
   received-none bytes h o = rw (record-brings bytes h) (nothing (eqb (o .code) accepted))
 
   -- nor a history of them
-  pub silent-none : (n : ℕ) (s : State) (history : List (List ℕ)) → silent p history ≡ true → summed (received σ (samePartner p)) n s history ≡ 0
-  unfolding silent summed
+  pub silent-none : (n : ℕ) (s : State) (history : List (List ℕ))
+      → silent p history ≡ true
+      → summed (received σ (samePartner p)) n s history ≡ 0
+  unfolding silent summed sumOver trace
   silent-none n s [] h = refl
   silent-none n s (bytes ∷ history) h =
       let o = onRecord n s bytes actionRoom in
@@ -82,13 +89,17 @@ module _ (σ : Scale) (p : Partner) (free : brings σ Timeout ≡ 0) where
 
   module _ (m : Sense) (n : ℕ) (balanced : Balanced m n σ) (s : State) where
     -- the step on such a record
-    pub silent-step : (bytes : List ℕ) → quiet p bytes ≡ true → Balance m (count (counted σ (samePartner p)) (onRecord n s bytes actionRoom .actions) + total σ (samePartner p) (onRecord n s bytes actionRoom .state .places)) (total σ (samePartner p) (s .places))
+    pub silent-step : (bytes : List ℕ)
+        → quiet p bytes ≡ true
+        → Balance m (count (counted σ (samePartner p)) (onRecord n s bytes actionRoom .actions) + total σ (samePartner p) (onRecord n s bytes actionRoom .state .places)) (total σ (samePartner p) (s .places))
     silent-step bytes h =
         let none = received-none bytes h (onRecord n s bytes actionRoom) in
         moved m _ _ _ _ refl (omega arith) (record-account m n σ balanced (samePartner p) s bytes)
 
     -- and a history of them
-    pub silent-account : (history : List (List ℕ)) → silent p history ≡ true → Balance m (summed (λ bytes o. count (counted σ (samePartner p)) (o .actions)) n s history + total σ (samePartner p) (after n s history .places)) (total σ (samePartner p) (s .places))
+    pub silent-account : (history : List (List ℕ))
+        → silent p history ≡ true
+        → Balance m (summed (λ bytes o. count (counted σ (samePartner p)) (o .actions)) n s history + total σ (samePartner p) (after n s history .places)) (total σ (samePartner p) (s .places))
     silent-account history h =
         let none = silent-none n s history h in
         moved m _ _ _ _ refl (omega arith) (history-account m n σ balanced (samePartner p) s history)

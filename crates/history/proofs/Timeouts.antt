@@ -16,25 +16,28 @@ use Rattle.record.specs.declared.event.Event.{Event}
 use Rattle.record.specs.declared.event.Event.the-variants.{Level, Mission, Mode, Hole, Order, EndAll, Call, Named}
 use Rattle.record.specs.declared.event.Reading.{Reading}
 use Rattle.record.specs.declared.event.Reading.the-variants.{Meant, Refused}
-use Rattle.record.proofs.Tests.{and-left, and-right, cond-holds, true-false, same-refl, same-eq}
-use Rattle.place.specs.Places.{vacant, holdsIn, tries}
-use Rattle.place.specs.Table.{release, again, oneMore, turn, holdingTurn}
+use Rattle.wire.proofs.Tests.{and-left, and-right, cond-holds, true-false}
+use Rattle.record.proofs.Partners.{same-refl, same-eq}
+use Rattle.place.specs.Places.{vacant, tries}
+use Rattle.place.proofs.Holdings.{holdsIn, holdingTurn}
+use Rattle.place.specs.Table.{release, again, oneMore, turn}
 use Rattle.place.specs.declared.phase.Phase.{Phase}
 use Rattle.place.specs.declared.phase.Phase.the-variants.{Connecting, Contacting, Open, Lost, Ending}
-use Rattle.place.specs.declared.seat.Holding.{Holding}
-use Rattle.place.specs.declared.seat.Holding.the-variants.{Free, Held}
+use Rattle.place.specs.declared.place.Holding.{Holding}
+use Rattle.place.specs.declared.place.Holding.the-variants.{Free, Held}
 use Rattle.place.specs.declared.turn.Turn.the-variants.{Released, Sends}
 use Rattle.unit.specs.States.{seek, sound}
 use Rattle.unit.specs.Steps.{act, turned, namedAt, step}
 use Rattle.unit.specs.OnRecords.{actionRoom, onReading, onRecord}
 use Rattle.unit.specs.declared.state.State.{State}
-use Rattle.unit.specs.declared.state.Found.{Found}
-use Rattle.unit.specs.declared.state.Found.the-variants.{At, Vacant, Full}
+use Rattle.unit.specs.declared.search.Found.{Found}
+use Rattle.unit.specs.declared.search.Found.the-variants.{At, Vacant, Full}
 use Rattle.unit.specs.declared.answer.Action.{Action}
 use Rattle.unit.proofs.Weights.{weigh-at}
 use Rattle.unit.proofs.Searches.{FoundOk, seek-ok}
-use Rattle.history.specs.Histories.{count, isTimeout, eventTimeout, ofReading, timeoutFor}
-use Rattle.history.proofs.Scales.{weightIn, weightOf, counted}
+use Rattle.unit.specs.Kept.{count}
+use Rattle.history.specs.Histories.{isTimeout, eventTimeout, ofReading, timeoutFor}
+use Rattle.unit.proofs.Scales.{weightIn, weightOf, counted}
 use Rattle.history.proofs.Left.{left, lefts, leftTo, none-left}
 
 module _ (n : ℕ) (p : Partner) where
@@ -50,7 +53,10 @@ module _ (n : ℕ) (p : Partner) where
   -- something is left to it, and no more than the limit
   module _ (s : State) (some : 1 ≤ leftTo n p (s .places)) (few : leftTo n p (s .places) ≤ n) where
     -- its place is not Open, and every other phase has an action for a timeout
-    place-acts : (i : ℕ) (k : Holding) → holdsIn p k ≡ true → weightIn (lefts n) (samePartner p) k ≤ n → 1 ≤ own (turned s i p (holdingTurn n (s .limits) k Timeout) .actions)
+    place-acts : (i : ℕ) (k : Holding)
+        → holdsIn p k ≡ true
+        → weightIn (lefts n) (samePartner p) k ≤ n
+        → 1 ≤ own (turned s i p (holdingTurn n (s .limits) k Timeout) .actions)
     unfolding turn
     place-acts i Free h w = true-false false h refl
     place-acts i (Held d ph q) h w = by ph (subst (λ b. cond b (left n ph) 0 ≤ n) h w)
@@ -103,7 +109,11 @@ module _ (n : ℕ) (p : Partner) where
         by Ended h same = true-false false h refl
 
     -- the record reads as such an event
-    pub timeout-acts : sound n s ≡ true → (bytes : List ℕ) → timeoutFor p bytes ≡ true → 1 ≤ count (counted (lefts n) (samePartner p)) (onRecord n s bytes actionRoom .actions)
+    pub timeout-acts :
+        sound n s ≡ true
+        → (bytes : List ℕ)
+        → timeoutFor p bytes ≡ true
+        → 1 ≤ count (counted (lefts n) (samePartner p)) (onRecord n s bytes actionRoom .actions)
     unfolding onRecord own
     timeout-acts ok bytes h = rw ok (by (reading bytes) h)
       where

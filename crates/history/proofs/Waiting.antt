@@ -1,30 +1,30 @@
--- Demand 3, the waiting partner: one that waits and is from then on named by nothing but timeouts is released, once, after the limit of tries at the latest.
+-- Demand 3, the waiting partner: one that waits and is from then on named by nothing but timeouts is released, once, after the limit
+-- of tries at the latest.
 -- Proves: left-after, waiting, released-once, demand-waiting, demand-released-once.
-use mathlib.Core.Path.{_≡_, refl, ap₂}
+use mathlib.Core.Path.{_≡_, refl, _∙_}
 use mathlib.Core.Bool.{Bool, true, false, _&&_, _||_}
 use mathlib.Core.List.{List, [], _∷_}
 use Prim.Native.Nat.{ℕ, zero, suc, _+_, _-_, _≤_}
 use native.Mathlib.Omega.{arith}
 use Rattle.record.specs.Partners.{samePartner}
 use Rattle.record.specs.declared.partner.Partner.{Partner}
-use Rattle.record.proofs.Tests.{and-left, and-right, cond-case}
-use Rattle.place.specs.Places.{tryLimit, holds, holdsIn}
-use Rattle.place.specs.declared.seat.Holding.{Holding}
-use Rattle.place.specs.declared.seat.Holding.the-variants.{Free, Held}
-use Rattle.place.specs.declared.seat.Place.{Place}
+use Rattle.wire.proofs.Tests.{and-left, and-right, cond-case}
+use Rattle.place.specs.Places.{tryLimit, holds}
+use Rattle.place.specs.declared.place.Place.{Place}
 use Rattle.unit.specs.States.{sound}
-use Rattle.unit.specs.OnRecords.{actionRoom, onRecord}
+use Rattle.unit.specs.OnRecords.{trace, actionRoom, onRecord}
 use Rattle.unit.specs.declared.state.State.{State}
 use Rattle.unit.specs.declared.answer.Action.{Action}
-use Rattle.unit.proofs.Weights.{weigh, once, here}
+use Rattle.unit.specs.Kept.{here, once, weigh, count}
 use Rattle.unit.proofs.Facts.{sound-facts}
 use Rattle.unit.proofs.Sound.{onRecord-sound}
-use Rattle.history.specs.Histories.{after, count, isRelease, timeoutFor, silent, timeouts, holdsPlace, waits, releaseOf, releasesOf, timeoutsToRelease}
-use Rattle.history.proofs.Balances.{atMost, exactly}
-use Rattle.history.proofs.Scales.{weightIn, counted}
-use Rattle.history.proofs.Accounts.{total}
-use Rattle.history.proofs.Counted.{summed-same, count-same}
-use Rattle.history.proofs.TakenIn.{seats, seats-balanced}
+use Rattle.history.specs.Histories.{endOf, after, isRelease, timeoutFor, silent, timeouts, holdsPlace, waits, releaseOf, releasesOf, timeoutsToRelease}
+use Rattle.unit.proofs.Counts.{count-same}
+use Rattle.unit.proofs.Balances.{atMost, exactly}
+use Rattle.unit.proofs.Scales.{counted}
+use Rattle.unit.proofs.Seats.{seats, seats-balanced, seats-weigh, own-places}
+use Rattle.unit.proofs.StepAccounts.{total}
+use Rattle.history.proofs.Counted.{summed-same}
 use Rattle.history.proofs.Silence.{quiet, silent-step, silent-account}
 use Rattle.history.proofs.Left.{lefts, leftTo, lefts-balanced, held-left, waiting-left}
 use Rattle.history.proofs.Timeouts.{timeout-acts}
@@ -38,7 +38,12 @@ one-less (suc before) acts after some h =
 
 module _ (n : ℕ) (some-try : 1 ≤ n) (p : Partner) where
   -- a record takes away what its timeout does, or more
-  left-step : (s : State) → sound n s ≡ true → leftTo n p (s .places) ≤ n → (bytes : List ℕ) → quiet p bytes ≡ true → leftTo n p (onRecord n s bytes actionRoom .state .places) ≤ leftTo n p (s .places) - once (timeoutFor p bytes)
+  left-step : (s : State)
+      → sound n s ≡ true
+      → leftTo n p (s .places) ≤ n
+      → (bytes : List ℕ)
+      → quiet p bytes ≡ true
+      → leftTo n p (onRecord n s bytes actionRoom .state .places) ≤ leftTo n p (s .places) - once (timeoutFor p bytes)
   left-step s ok few bytes h =
       let o = onRecord n s bytes actionRoom in
       let before = leftTo n p (s .places) in
@@ -49,8 +54,13 @@ module _ (n : ℕ) (some-try : 1 ≤ n) (p : Partner) where
       (λ other. omega arith)
 
   -- each timeout takes one away, until nothing is left
-  pub left-after : (s : State) → sound n s ≡ true → leftTo n p (s .places) ≤ n → (history : List (List ℕ)) → silent p history ≡ true → leftTo n p (after n s history .places) ≤ leftTo n p (s .places) - timeouts p history
-  unfolding after silent timeouts
+  pub left-after : (s : State)
+      → sound n s ≡ true
+      → leftTo n p (s .places) ≤ n
+      → (history : List (List ℕ))
+      → silent p history ≡ true
+      → leftTo n p (after n s history .places) ≤ leftTo n p (s .places) - timeouts p history
+  unfolding after silent timeouts endOf trace
   left-after s ok few [] h = omega arith
   left-after s ok few (bytes ∷ history) h =
       let o = onRecord n s bytes actionRoom in
@@ -71,13 +81,7 @@ absent p (place ∷ ps) h = by (holds p place) (omega arith) (absent p ps (omega
 
 -- the places of one partner weighed are those that hold it
 seats-held : (p : Partner) (ps : List Place) → total seats (samePartner p) ps ≡ weigh (here (holds p)) ps
-unfolding weigh
-seats-held p [] = refl
-seats-held p (place ∷ ps) = ap₂ _+_ (by (place .holding)) (seats-held p ps)
-  where
-    by : (k : Holding) → weightIn seats (samePartner p) k ≡ once (holdsIn p k)
-    by Free = refl
-    by (Held d ph q) = refl
+seats-held p ps = seats-weigh (samePartner p) ps ∙ own-places p ps
 
 -- a release for the partner is one of its releases
 release-of : (p : Partner) (a : Action) → counted seats (samePartner p) a ≡ releaseOf p a
@@ -89,37 +93,61 @@ release-of p a = by (samePartner p (a .partner)) (isRelease a)
     by false true = refl
     by false false = refl
 
-module _ (n : ℕ) (some-try : 1 ≤ n) (s : State) (ok : sound n s ≡ true) (p : Partner) (waiting-now : waits p (s .places) ≡ true) (history : List (List ℕ)) (quiet-on : silent p history ≡ true) (enough : timeoutsToRelease n ≤ timeouts p history) where
-  -- after so many timeouts nothing is left, so no place is held
-  none-held : weigh (here (holds p)) (after n s history .places) ≡ 0
-  none-held =
-      let few = waiting-left n p some-try (s .places) (sound-facts n s ok .places) waiting-now .1 in
-      let most = left-after n some-try p s ok few history quiet-on in
-      let held = held-left n p (after n s history .places) in
-      omega arith
+module _
+    (n : ℕ)
+    (some-try : 1 ≤ n)
+    (s : State)
+    (ok : sound n s ≡ true)
+    (p : Partner)
+    (waiting-now : waits p (s .places) ≡ true)
+    (history : List (List ℕ))
+    (quiet-on : silent p history ≡ true)
+    (enough : timeoutsToRelease n ≤ timeouts p history)
+  where
+    -- after so many timeouts nothing is left, so no place is held
+    none-held : weigh (here (holds p)) (after n s history .places) ≡ 0
+    none-held =
+        let few = waiting-left n p some-try (s .places) (sound-facts n s ok .places) waiting-now .1 in
+        let most = left-after n some-try p s ok few history quiet-on in
+        let held = held-left n p (after n s history .places) in
+        omega arith
 
-  -- it holds no place
-  pub waiting : holdsPlace p (after n s history .places) ≡ false
-  waiting = absent p (after n s history .places) none-held
+    -- it holds no place
+    pub waiting : holdsPlace p (after n s history .places) ≡ false
+    waiting = absent p (after n s history .places) none-held
 
-  -- it was released, by one action 22 to that very partner
-  pub released-once : releasesOf p n s history ≡ 1
-  released-once =
-      let held = waiting-left n p some-try (s .places) (sound-facts n s ok .places) waiting-now .0 in
-      let account = silent-account seats p refl exactly n (seats-balanced n) s history quiet-on in
-      let before = seats-held p (s .places) in
-      let then = seats-held p (after n s history .places) in
-      let none = none-held in
-      let own =
-      summed-same (λ bytes o. count (counted seats (samePartner p)) (o .actions)) (λ bytes o. count (releaseOf p) (o .actions)) n
-      (λ s bytes. count-same (counted seats (samePartner p)) (releaseOf p) (release-of p) (onRecord n s bytes actionRoom .actions)) s history in
-      omega arith
+    -- it was released, by one action 22 to that very partner
+    pub released-once : releasesOf p n s history ≡ 1
+    released-once =
+        let held = waiting-left n p some-try (s .places) (sound-facts n s ok .places) waiting-now .0 in
+        let account = silent-account seats p refl exactly n (seats-balanced n) s history quiet-on in
+        let before = seats-held p (s .places) in
+        let then = seats-held p (after n s history .places) in
+        let none = none-held in
+        let own =
+        summed-same (λ bytes o. count (counted seats (samePartner p)) (o .actions)) (λ bytes o. count (releaseOf p) (o .actions)) n
+        (λ s bytes. count-same (counted seats (samePartner p)) (releaseOf p) (release-of p) (onRecord n s bytes actionRoom .actions)) s history in
+        omega arith
 
 -- with the three tries of document 01
 -- promise
-pub demand-waiting : (s : State) → sound tryLimit s ≡ true → (p : Partner) → waits p (s .places) ≡ true → (history : List (List ℕ)) → silent p history ≡ true → 3 ≤ timeouts p history → holdsPlace p (after tryLimit s history .places) ≡ false
+pub demand-waiting : (s : State)
+    → sound tryLimit s ≡ true
+    → (p : Partner)
+    → waits p (s .places) ≡ true
+    → (history : List (List ℕ))
+    → silent p history ≡ true
+    → 3 ≤ timeouts p history
+    → holdsPlace p (after tryLimit s history .places) ≡ false
 demand-waiting = waiting tryLimit (omega arith)
 
 -- promise
-pub demand-released-once : (s : State) → sound tryLimit s ≡ true → (p : Partner) → waits p (s .places) ≡ true → (history : List (List ℕ)) → silent p history ≡ true → 3 ≤ timeouts p history → releasesOf p tryLimit s history ≡ 1
+pub demand-released-once : (s : State)
+    → sound tryLimit s ≡ true
+    → (p : Partner)
+    → waits p (s .places) ≡ true
+    → (history : List (List ℕ))
+    → silent p history ≡ true
+    → 3 ≤ timeouts p history
+    → releasesOf p tryLimit s history ≡ 1
 demand-released-once = released-once tryLimit (omega arith)

@@ -1,8 +1,8 @@
 -- Document 01, "Worth of each promise": histories, and what demand 3 counts in them.
 -- A history is a row of event records, any bytes, each given 20 bytes for its actions. Everything is counted from the defined steps.
--- Defines: after, summed, one, isOrder, isCall, isLoss, acceptedAs, orders, calls, losses, actions, count, isRelease, releases,
+-- Defines: endOf, after, sumOver, summed, one, isOrder, isCall, isLoss, acceptedAs, orders, calls, losses, actions, isRelease, releases,
 -- placesHeld, eventNames, isTimeout, eventTimeout, ofReading, names, timeoutFor, silent, timeouts, holdsPlace, waitingPhase,
--- waitsIn, waits, releaseOf, releasesOf, triesIn, heldTries, perOrder, perCall, perLoss, timeoutsToRelease, actionsOf, ordersOf,
+-- waitsAt, waits, releaseOf, releasesOf, heldTries, perOrder, perCall, perLoss, timeoutsToRelease, actionsOf, ordersOf,
 -- callsOf, lossesOf.
 use Prim.Native.Nat.{ℕ, _+_, _*_}
 use mathlib.Core.Bool.{Bool, true, false, cond, _&&_, _||_, not}
@@ -10,8 +10,9 @@ use mathlib.Core.List.{List, [], _∷_}
 use lib.Dec.{eqb}
 use lib.ListN.{length}
 use Rattle.record.specs.Partners.{samePartner}
-use Rattle.record.specs.Records.{byte, kindOrder, kindLoss, kindMessage, messageCall, reading}
-use Rattle.record.specs.Refusals.{accepted}
+use Rattle.record.specs.Records.{kindOrder, kindLoss, kindMessage, messageCall, reading}
+use Rattle.wire.specs.Bytes.{byte}
+use Rattle.wire.specs.Refusals.{accepted}
 use Rattle.record.specs.declared.partner.Partner.{Partner}
 use Rattle.record.specs.declared.event.PartnerEvent.{PartnerEvent}
 use Rattle.record.specs.declared.event.PartnerEvent.the-variants.{Drop, Up, Loss, Timeout, Version, Ended}
@@ -19,29 +20,35 @@ use Rattle.record.specs.declared.event.Event.{Event}
 use Rattle.record.specs.declared.event.Event.the-variants.{Level, Mission, Mode, Hole, Order, EndAll, Call, Named}
 use Rattle.record.specs.declared.event.Reading.{Reading}
 use Rattle.record.specs.declared.event.Reading.the-variants.{Meant, Refused}
-use Rattle.place.specs.Places.{isFree, holds, tries}
+use Rattle.place.specs.Places.{isFree, holds, tries, onHolding}
 use Rattle.place.specs.Table.{release}
 use Rattle.place.specs.declared.phase.Phase.{Phase}
 use Rattle.place.specs.declared.phase.Phase.the-variants.{Connecting, Contacting, Open, Lost, Ending}
-use Rattle.place.specs.declared.seat.Holding.{Holding}
-use Rattle.place.specs.declared.seat.Holding.the-variants.{Free, Held}
-use Rattle.place.specs.declared.seat.Place.{Place}
+use Rattle.place.specs.declared.place.Place.{Place}
 use Rattle.unit.specs.Steps.{Outcome}
-use Rattle.unit.specs.OnRecords.{actionRoom, onRecord}
+use Rattle.unit.specs.Kept.{count}
+use Rattle.unit.specs.OnRecords.{trace}
 use Rattle.unit.specs.declared.state.State.{State}
 use Rattle.unit.specs.declared.answer.Action.{Action}
 
+-- the state that a row of outcomes ends in
+unfoldable pub endOf : State → List Outcome → State
+endOf s [] = s
+endOf s (o ∷ os) = endOf (o .state) os
+
 -- the state after a history
 unfoldable pub after : ℕ → State → List (List ℕ) → State
-after n s [] = s
-after n s (bytes ∷ history) = after n (onRecord n s bytes actionRoom .state) history
+after n s history = endOf s (trace n s history)
 
--- the sum over a history of what each record and its step count for
+-- the sum over records and their outcomes of what each counts for
+unfoldable pub sumOver : (List ℕ → Outcome → ℕ) → List (List ℕ) → List Outcome → ℕ
+sumOver f [] os = 0
+sumOver f (bytes ∷ history) [] = 0
+sumOver f (bytes ∷ history) (o ∷ os) = f bytes o + sumOver f history os
+
+-- the sum over a history
 unfoldable pub summed : (List ℕ → Outcome → ℕ) → ℕ → State → List (List ℕ) → ℕ
-summed f n s [] = 0
-summed f n s (bytes ∷ history) =
-    let o : Outcome = onRecord n s bytes actionRoom in
-    f bytes o + summed f n (o .state) history
+summed f n s history = sumOver f history (trace n s history)
 
 -- 1 where a test passes
 abbrev pub one : Bool → ℕ
@@ -74,11 +81,6 @@ losses = summed (acceptedAs isLoss)
 -- the actions of a history
 abbrev pub actions : ℕ → State → List (List ℕ) → ℕ
 actions = summed (λ bytes o. length (o .actions))
-
--- how many actions pass a test
-unfoldable pub count : (Action → Bool) → List Action → ℕ
-count test [] = 0
-count test (a ∷ acts) = one (test a) + count test acts
 
 -- "releases the actions 22"
 abbrev pub isRelease : Action → Bool
@@ -154,13 +156,12 @@ waitingPhase Open = false
 waitingPhase (Lost t) = true
 waitingPhase (Ending t) = true
 
-abbrev pub waitsIn : Partner → Holding → Bool
-waitsIn p Free = false
-waitsIn p (Held d ph q) = samePartner p q && waitingPhase ph
+abbrev pub waitsAt : Partner → Place → Bool
+waitsAt p place = onHolding false (λ d ph q. samePartner p q && waitingPhase ph) (place .holding)
 
 unfoldable pub waits : Partner → List Place → Bool
 waits p [] = false
-waits p (place ∷ ps) = waitsIn p (place .holding) || waits p ps
+waits p (place ∷ ps) = waitsAt p place || waits p ps
 
 -- the releases of one partner
 abbrev pub releaseOf : Partner → Action → Bool
@@ -170,12 +171,8 @@ abbrev pub releasesOf : Partner → ℕ → State → List (List ℕ) → ℕ
 releasesOf p = summed (λ bytes o. count (releaseOf p) (o .actions))
 
 -- the tries used at a place, 0 where it is free
-abbrev pub triesIn : Holding → ℕ
-triesIn Free = 0
-triesIn (Held d ph p) = tries ph
-
 abbrev pub heldTries : Place → ℕ
-heldTries place = triesIn (place .holding)
+heldTries place = onHolding 0 (λ d ph p. tries ph) (place .holding)
 
 -- the most actions for each accepted order, call 38 and loss, n being the limit of tries: 11, 5 and 3 where it is 3
 abbrev pub perOrder : ℕ → ℕ

@@ -1,6 +1,6 @@
 -- Document 01, "Worth of each promise": "the histories that reach them", from a cold start with X 1 to 2 and with one partner, RBC 5.
--- Defines: started, rbc5, order5, drop5, up5, lost5, timeout5, version5, call5, ended5, retries, lossesIn, closed, ordering,
--- calling, repeated, reaching, Tally, tally, counts, oneToNine.
+-- Defines: started, rbc5, order5, drop5, up5, lost5, timeout5, version5, call5, ended5, retries, lossesIn, endedLate, ordering,
+-- calling, repeated, reaching, Sums, sumsOf, counts, oneToNine.
 use Prim.Native.Nat.{ℕ, zero, suc, _-_}
 use mathlib.Core.List.{List, [], _∷_, _++_}
 use lib.ListN.{replicate}
@@ -53,15 +53,15 @@ lossesIn n zero = []
 lossesIn n (suc c) = lost5 ∷ (retries n ++ (up5 ∷ lossesIn n c))
 
 -- an open session ended as late as can be
-abbrev pub closed : ℕ → List (List ℕ)
-closed n = drop5 ∷ (retries n ++ (ended5 ∷ []))
+abbrev pub endedLate : ℕ → List (List ℕ)
+endedLate n = drop5 ∷ (retries n ++ (ended5 ∷ []))
 
 -- one order, or one call, and c losses; "P10" is `ordering 3 0`
 unfoldable pub ordering : ℕ → ℕ → List (List ℕ)
-ordering n c = order5 ∷ (retries n ++ (up5 ∷ (retries n ++ (version5 ∷ (lossesIn n c ++ closed n)))))
+ordering n c = order5 ∷ (retries n ++ (up5 ∷ (retries n ++ (version5 ∷ (lossesIn n c ++ endedLate n)))))
 
 unfoldable pub calling : ℕ → ℕ → List (List ℕ)
-calling n c = call5 ∷ (lossesIn n c ++ closed n)
+calling n c = call5 ∷ (lossesIn n c ++ endedLate n)
 
 -- a history so many times
 unfoldable pub repeated : ℕ → List (List ℕ) → List (List ℕ)
@@ -75,14 +75,14 @@ reaching n zero (suc b) c = calling n c ++ repeated b (calling n 0)
 reaching n (suc a) b c = ordering n c ++ (repeated a (ordering n 0) ++ repeated b (calling n 0))
 
 -- what demand 3 counts in a history
-pub record Tally : Type 0 where
+pub record Sums : Type 0 where
   pub orders : ℕ
   pub calls : ℕ
   pub losses : ℕ
   pub actions : ℕ
 
-unfoldable pub tally : ℕ → List (List ℕ) → Tally
-tally n history =
+unfoldable pub sumsOf : ℕ → List (List ℕ) → Sums
+sumsOf n history =
     record {
       orders = orders n started history;
       calls = calls n started history;
@@ -91,7 +91,7 @@ tally n history =
     }
 
 -- a orders, b calls, c losses and k actions
-abbrev pub counts : ℕ → ℕ → ℕ → ℕ → Tally
+abbrev pub counts : ℕ → ℕ → ℕ → ℕ → Sums
 counts a b c k = record { orders = a; calls = b; losses = c; actions = k }
 
 -- the limits of tries that are tried one by one

@@ -11,40 +11,41 @@ use lib.Dec.{eqb}
 use lib.Seq.{drop-drop}
 use lib.ListN.{length, getD, take, drop, replicate}
 use borrow.Author.Tests.{eqb-true, eq-eqb}
-use Rattle.record.specs.Blocks.{blocks}
-use Rattle.record.specs.Records.{flag}
-use Rattle.record.proofs.Blocks.{blocks-length}
-use Rattle.record.proofs.Tests.{and-left, and-right, and-both, true-false}
-use Rattle.place.specs.Places.{phaseNumber, tries, directionNumber, vacant, seat, isFreeHolding}
+use Rattle.wire.specs.Blocks.{blocks}
+use Rattle.wire.specs.Bytes.{flag}
+use Rattle.wire.proofs.Blocks.{blocks-length}
+use Rattle.wire.proofs.Tests.{and-left, and-right, and-both, true-false}
+use Rattle.place.specs.Places.{phaseNumber, tries, directionNumber, vacant, seat}
+use Rattle.place.proofs.Holdings.{isFreeHolding}
 use Rattle.place.specs.declared.phase.Phase.{Phase}
 use Rattle.place.specs.declared.phase.Phase.the-variants.{Connecting, Contacting, Open, Lost, Ending}
-use Rattle.place.specs.declared.seat.Direction.{Direction}
-use Rattle.place.specs.declared.seat.Direction.the-variants.{Outgoing, Incoming}
-use Rattle.place.specs.declared.seat.Holding.{Holding}
-use Rattle.place.specs.declared.seat.Holding.the-variants.{Free, Held}
-use Rattle.place.specs.declared.seat.Place.{Place}
+use Rattle.place.specs.declared.place.Direction.{Direction}
+use Rattle.place.specs.declared.place.Direction.the-variants.{Outgoing, Incoming}
+use Rattle.place.specs.declared.place.Holding.{Holding}
+use Rattle.place.specs.declared.place.Holding.the-variants.{Free, Held}
+use Rattle.place.specs.declared.place.Place.{Place}
 use Rattle.unit.specs.States.{placeCount}
 use Rattle.unit.specs.declared.state.State.{State}
-use Rattle.image.specs.Images.{imageSize, placeSize, holdingBytes, placeBytes, placesBytes, markByte, bodyBytes, imageOf, phased, directed, placeIn, placesIn, stateIn, sameBytes}
+use Rattle.image.specs.Images.{imageSize, placeSize, placeBytes, placesBytes, markByte, bodyBytes, imageOf, phaseOf, directionOf, placeIn, placesIn, stateIn, sameBytes}
 
 -- each value's byte stands for it again
-phased-number : (ph : Phase) → phased (phaseNumber ph) (tries ph) ≡ ph
-phased-number (Connecting t) = refl
-phased-number (Contacting t) = refl
-phased-number Open = refl
-phased-number (Lost t) = refl
-phased-number (Ending t) = refl
+phaseOf-number : (ph : Phase) → phaseOf (phaseNumber ph) (tries ph) ≡ ph
+phaseOf-number (Connecting t) = refl
+phaseOf-number (Contacting t) = refl
+phaseOf-number Open = refl
+phaseOf-number (Lost t) = refl
+phaseOf-number (Ending t) = refl
 
-directed-number : (d : Direction) → directed (directionNumber d) ≡ d
-directed-number Outgoing = refl
-directed-number Incoming = refl
+directionOf-number : (d : Direction) → directionOf (directionNumber d) ≡ d
+directionOf-number Outgoing = refl
+directionOf-number Incoming = refl
 
 flag-mark : (b : Bool) → flag (markByte b) ≡ b
 flag-mark true = refl
 flag-mark false = refl
 
 -- seven bytes a place
-pub placeBytes-length : (k : Holding) → length (holdingBytes k) ≡ placeSize
+pub placeBytes-length : (k : Holding) → length (placeBytes (record { holding = k })) ≡ placeSize
 placeBytes-length Free = refl
 placeBytes-length (Held d ph p) = refl
 
@@ -59,13 +60,13 @@ not-free Open = refl
 not-free (Lost t) = refl
 not-free (Ending t) = refl
 
-pub placeIn-bytes : (k : Holding) (rest : List ℕ) → placeIn (holdingBytes k ++ rest) ≡ record { holding = k }
+pub placeIn-bytes : (k : Holding) (rest : List ℕ) → placeIn (placeBytes (record { holding = k }) ++ rest) ≡ record { holding = k }
 placeIn-bytes Free rest = refl
 placeIn-bytes (Held d ph p) rest =
-    ap (λ b. cond b vacant (seat (directed (directionNumber d)) (phased (phaseNumber ph) (tries ph)) p)) (not-free ph)
-    ∙ (λ i. seat (directed-number d i) (phased-number ph i) p)
+    ap (λ b. cond b vacant (seat (directionOf (directionNumber d)) (phaseOf (phaseNumber ph) (tries ph)) p)) (not-free ph)
+    ∙ (λ i. seat (directionOf-number d i) (phaseOf-number ph i) p)
 
-drop-place : (k : Holding) (rest : List ℕ) → drop placeSize (holdingBytes k ++ rest) ≡ rest
+drop-place : (k : Holding) (rest : List ℕ) → drop placeSize (placeBytes (record { holding = k }) ++ rest) ≡ rest
 drop-place Free rest = refl
 drop-place (Held d ph p) rest = refl
 
@@ -115,11 +116,13 @@ bytes-same (x ∷ xs) (y ∷ ys) h =
     ap₂ _∷_ (eqb-true x y (and-left (eqb x y) (sameBytes xs ys) h)) (bytes-same xs ys (and-right (eqb x y) (sameBytes xs ys) h))
 
 -- the seven bytes of the place with a number
-take-place : (k : Holding) (rest : List ℕ) → take placeSize (holdingBytes k ++ rest) ≡ holdingBytes k
+take-place : (k : Holding) (rest : List ℕ) → take placeSize (placeBytes (record { holding = k }) ++ rest) ≡ placeBytes (record { holding = k })
 take-place Free rest = refl
 take-place (Held d ph p) rest = refl
 
-pub place-bytes-at : (ps : List Place) (i : ℕ) → i < length ps → take placeSize (drop (placeSize * i) (placesBytes ps)) ≡ placeBytes (getD ps i vacant)
+pub place-bytes-at : (ps : List Place) (i : ℕ)
+    → i < length ps
+    → take placeSize (drop (placeSize * i) (placesBytes ps)) ≡ placeBytes (getD ps i vacant)
 unfolding blocks
 place-bytes-at [] i h = absurd (omega arith)
 place-bytes-at (p ∷ ps) zero h = take-place (p .holding) (placesBytes ps)
@@ -132,10 +135,10 @@ place-bytes-at (p ∷ ps) (suc i) h =
     ∙ place-bytes-at ps i (le-of-suc-le-suc h)
 
 -- "A free place is seven zeros, and no other bytes mean free"
-pub zeros-free : (k : Holding) → holdingBytes k ≡ replicate placeSize 0 → isFreeHolding k ≡ true
+pub zeros-free : (k : Holding) → placeBytes (record { holding = k }) ≡ replicate placeSize 0 → isFreeHolding k ≡ true
 zeros-free Free h = refl
 zeros-free (Held d ph p) h = true-false (eqb (phaseNumber ph) 0) (eq-eqb (phaseNumber ph) 0 (ap (λ l. getD l 0 0) h)) (not-free ph)
 
-pub free-zeros : (k : Holding) → isFreeHolding k ≡ true → holdingBytes k ≡ replicate placeSize 0
+pub free-zeros : (k : Holding) → isFreeHolding k ≡ true → placeBytes (record { holding = k }) ≡ replicate placeSize 0
 free-zeros Free h = refl
 free-zeros (Held d ph p) h = true-false false h refl

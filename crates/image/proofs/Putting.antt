@@ -11,14 +11,14 @@ use lib.ListN.{length, drop}
 use lib.Seq.{sets, sets-eq, take-all, drop-drop}
 use borrow.Author.Tests.{leb-true, le-leb, lt-leb}
 use Rattle.record.specs.Records.{highestLevel, missionUnderWay}
-use Rattle.record.specs.Refusals.{accepted, noRoom, notSound}
-use Rattle.record.proofs.Tests.{and-left, and-right}
-use Rattle.record.proofs.Blocks.{FilledTo}
+use Rattle.wire.specs.Refusals.{accepted, noRoom, notSound}
+use Rattle.wire.proofs.Tests.{and-left, and-right}
+use Rattle.wire.proofs.Blocks.{FilledTo}
 use Rattle.unit.specs.States.{placeCount, highestX, sound}
 use Rattle.unit.specs.declared.state.State.{State}
 use Rattle.unit.proofs.Facts.{sound-facts}
 use Rattle.image.specs.Images.{imageKind, imageSize, placeBytes, placesBytes, headBytes, bodyBytes, imageOf, writeRefused, writeImage, imaged}
-use Rattle.image.specs.declared.Stored.{Stored}
+use Rattle.image.specs.declared.write.Stored.{Stored}
 
 -- the numbers of a sound state that are wider than a byte in the code
 pub record Small (s : State) : Type 0 where
@@ -37,7 +37,10 @@ sound-small n s ok =
     record { lowest = omega arith; highest = omega arith; level = omega arith; mission = omega arith }
 
 -- the kind and the head, then the four places, then what stood there
-pub image-end : (s : State) (buffer : List ℕ) → length (s .places) ≡ placeCount → imageSize ≤ length buffer → FilledTo placeBytes 9 (s .places) (sets buffer 0 (imageKind ∷ headBytes s)) 4 imageSize ≡ imageOf s ++ drop imageSize buffer
+pub image-end : (s : State) (buffer : List ℕ)
+    → length (s .places) ≡ placeCount
+    → imageSize ≤ length buffer
+    → FilledTo placeBytes 9 (s .places) (sets buffer 0 (imageKind ∷ headBytes s)) 4 imageSize ≡ imageOf s ++ drop imageSize buffer
 unfolding imageOf bodyBytes
 image-end s buffer four room =
     ap (λ b. FilledTo placeBytes 9 (s .places) b 4 imageSize) headed
@@ -52,16 +55,23 @@ image-end s buffer four room =
 
 -- what writing answers, and the buffer at exit, by what the tests showed
 module _ (n : ℕ) (s : State) (buffer : List ℕ) where
-  pub wrote-no-room : length buffer < imageSize → (writeRefused noRoom s ≡ writeImage n s (length buffer)) × (buffer ≡ imaged n s buffer)
+  pub wrote-no-room :
+      length buffer < imageSize
+      → (writeRefused noRoom s ≡ writeImage n s (length buffer)) × (buffer ≡ imaged n s buffer)
   unfolding writeImage imaged
   wrote-no-room small = (simp (lt-leb imageSize (length buffer) small), simp (lt-leb imageSize (length buffer) small))
 
   module _ (room : imageSize ≤ length buffer) where
-    pub wrote-unsound : sound n s ≡ false → (writeRefused notSound s ≡ writeImage n s (length buffer)) × (buffer ≡ imaged n s buffer)
+    pub wrote-unsound :
+        sound n s ≡ false
+        → (writeRefused notSound s ≡ writeImage n s (length buffer)) × (buffer ≡ imaged n s buffer)
     unfolding writeImage imaged
     wrote-unsound bad = (simp (le-leb imageSize (length buffer) room, bad), simp (le-leb imageSize (length buffer) room, bad))
 
-    pub wrote-done : (after : List ℕ) → sound n s ≡ true → after ≡ imageOf s ++ drop imageSize buffer → (_≡_ {A = Stored} (record { code = accepted; state = s; count = imageSize }) (writeImage n s (length buffer))) × (after ≡ imaged n s buffer)
+    pub wrote-done : (after : List ℕ)
+        → sound n s ≡ true
+        → after ≡ imageOf s ++ drop imageSize buffer
+        → (_≡_ {A = Stored} (record { code = accepted; state = s; count = imageSize }) (writeImage n s (length buffer))) × (after ≡ imaged n s buffer)
     unfolding writeImage imaged
     wrote-done after good wrote =
         (simp (le-leb imageSize (length buffer) room, good), wrote ∙ simp (le-leb imageSize (length buffer) room, good))

@@ -1,5 +1,4 @@
 -- Reading and writing images, on the definitions.
--- Defines: placesAt.
 -- Proves: read-written, written-read, read-free.
 use mathlib.Core.Path.{_≡_, ap, sym, _∙_}
 use mathlib.Core.Logic.{_↔_}
@@ -11,15 +10,15 @@ use lib.Dec.{eqb}
 use lib.Seq.{drop-drop}
 use lib.ListN.{length, getD, take, drop, replicate}
 use borrow.Author.Tests.{eqb-true, eq-eqb}
-use Rattle.record.specs.Refusals.{accepted, wrongLength, unknownKind, notSound}
-use Rattle.record.proofs.Tests.{and-left, and-right, and-both, cond-case}
+use Rattle.wire.specs.Refusals.{accepted, wrongLength, unknownKind, notSound}
+use Rattle.wire.proofs.Tests.{and-left, and-right, and-both, cond-case}
 use Rattle.place.specs.Places.{vacant, isFree}
-use Rattle.place.specs.declared.seat.Place.{Place}
+use Rattle.place.specs.declared.place.Place.{Place}
 use Rattle.unit.specs.States.{placeCount, sound}
 use Rattle.unit.specs.declared.state.State.{State}
-use Rattle.unit.specs.declared.answer.Started.{Started}
+use Rattle.unit.specs.declared.start.Started.{Started}
 use Rattle.unit.proofs.Facts.{sound-facts}
-use Rattle.image.specs.Images.{imageKind, imageSize, headSize, placeSize, placeBytes, bodyBytes, imageOf, stateIn, sameBytes, readRefused, readBody, readImage}
+use Rattle.image.specs.Images.{imageKind, imageSize, placeSize, placeBytes, bodyBytes, imageOf, stateIn, sameBytes, readRefused, readBody, readImage, placesAt}
 use Rattle.image.proofs.Bytes.{stateIn-body, imageOf-length, same-bytes, bytes-same, place-bytes-at, zeros-free, free-zeros}
 
 -- a sound state is read from its own body
@@ -34,7 +33,9 @@ body-read n s ok =
 
 -- "what is written reads back"
 -- promise
-pub read-written : (n : ℕ) (s : State) → sound n s ≡ true → readImage n (imageOf s) ≡ record { code = accepted; state = s }
+pub read-written : (n : ℕ) (s : State)
+    → sound n s ≡ true
+    → readImage n (imageOf s) ≡ record { code = accepted; state = s }
 unfolding readImage imageOf
 read-written n s ok =
     ap (λ b. cond b (readBody n (bodyBytes s)) (readRefused wrongLength))
@@ -45,12 +46,11 @@ read-written n s ok =
 abbrev ReadOk : ℕ → List ℕ → Started → Type 0
 ReadOk n bytes r = r .code ≡ accepted → (sound n (r .state) ≡ true) × (imageOf (r .state) ≡ bytes)
 
-not-accepted : (n : ℕ) (bytes : List ℕ) (k : ℕ) → (k ≡ accepted → ⊥) → ReadOk n bytes (readRefused k)
-not-accepted n bytes k other h = absurd (other h)
-
 -- "each image that is read is the one its state writes"
 -- promise
-pub written-read : (n : ℕ) (bytes : List ℕ) → readImage n bytes .code ≡ accepted → (sound n (readImage n bytes .state) ≡ true) × (imageOf (readImage n bytes .state) ≡ bytes)
+pub written-read : (n : ℕ) (bytes : List ℕ)
+    → readImage n bytes .code ≡ accepted
+    → (sound n (readImage n bytes .state) ≡ true) × (imageOf (readImage n bytes .state) ≡ bytes)
 unfolding readImage imageOf
 written-read n [] = λ h. absurd (omega arith)
 written-read n (kind ∷ body) =
@@ -70,13 +70,13 @@ written-read n (kind ∷ body) =
     (λ short h. absurd (omega arith)))
     (λ unknown h. absurd (omega arith))
 
--- the first place's first byte
-abbrev pub placesAt : ℕ
-placesAt = 1 + headSize
-
 -- "A free place is seven zeros, and no other bytes mean free": in an image that is read, at every place
 -- promise
-pub read-free : (n : ℕ) (bytes : List ℕ) (i : ℕ) → readImage n bytes .code ≡ accepted → i < placeCount → (isFree (getD (readImage n bytes .state .places) i vacant) ≡ true) ↔ (take placeSize (drop (placesAt + placeSize * i) bytes) ≡ replicate placeSize 0)
+pub read-free : (n : ℕ) (bytes : List ℕ) (i : ℕ)
+    → readImage n bytes .code ≡ accepted
+    → i < placeCount
+    → (isFree (getD (readImage n bytes .state .places) i vacant) ≡ true)
+    ↔ (take placeSize (drop (placesAt + placeSize * i) bytes) ≡ replicate placeSize 0)
 unfolding imageOf bodyBytes
 read-free n bytes i ok below = ((λ free. seven ∙ free-zeros (place .holding) free), (λ zeros. zeros-free (place .holding) (sym seven ∙ zeros)))
   where

@@ -1,27 +1,25 @@
 -- Document 01, "Stored image": the 37 bytes of a state, and the state of 37 bytes.
--- Defines: imageKind, imageSize, placeSize, holdingBytes, placeBytes, placesBytes, markByte, headBytes, bodyBytes, imageOf,
--- writeRefused, writeImage, imaged, phased, directed, heldIn, placeIn, placesIn, headSize, stateIn, sameBytes, readRefused,
--- readBody, readImage.
-use Prim.Native.Nat.{ℕ, zero, suc}
+-- Defines: imageKind, imageSize, placeSize, placeBytes, placesBytes, markByte, headBytes, bodyBytes, imageOf,
+-- writeRefused, writeImage, imaged, phaseOf, directionOf, heldIn, placeIn, placesIn, headSize, placesAt, stateIn, sameBytes, readRefused,
+-- isBodyOf, readBody, readImage.
+use Prim.Native.Nat.{ℕ, zero, suc, _+_}
 use mathlib.Core.Bool.{Bool, true, false, cond, _&&_}
 use mathlib.Core.List.{List, [], _∷_, _++_}
 use lib.Dec.{eqb, leb}
 use lib.ListN.{length, drop, replicate}
-use Rattle.record.specs.Blocks.{blocks}
-use Rattle.record.specs.Records.{byte, flag}
-use Rattle.record.specs.Refusals.{accepted, wrongLength, unknownKind, noRoom, notSound}
-use Rattle.place.specs.Places.{phaseNumber, tries, directionNumber, vacant, seat}
+use Rattle.wire.specs.Blocks.{blocks}
+use Rattle.wire.specs.Bytes.{byte, flag}
+use Rattle.wire.specs.Refusals.{accepted, wrongLength, unknownKind, noRoom, notSound}
+use Rattle.place.specs.Places.{phaseNumber, tries, directionNumber, vacant, seat, onHolding}
 use Rattle.place.specs.declared.phase.Phase.{Phase}
 use Rattle.place.specs.declared.phase.Phase.the-variants.{Connecting, Contacting, Open, Lost, Ending}
-use Rattle.place.specs.declared.seat.Direction.{Direction}
-use Rattle.place.specs.declared.seat.Direction.the-variants.{Outgoing, Incoming}
-use Rattle.place.specs.declared.seat.Holding.{Holding}
-use Rattle.place.specs.declared.seat.Holding.the-variants.{Free, Held}
-use Rattle.place.specs.declared.seat.Place.{Place}
+use Rattle.place.specs.declared.place.Direction.{Direction}
+use Rattle.place.specs.declared.place.Direction.the-variants.{Outgoing, Incoming}
+use Rattle.place.specs.declared.place.Place.{Place}
 use Rattle.unit.specs.States.{cold, noLimits, placeCount, sound}
 use Rattle.unit.specs.declared.state.State.{State}
-use Rattle.unit.specs.declared.answer.Started.{Started}
-use Rattle.image.specs.declared.Stored.{Stored}
+use Rattle.unit.specs.declared.start.Started.{Started}
+use Rattle.image.specs.declared.write.Stored.{Stored}
 
 -- "kind A1 hex"
 abbrev pub imageKind : ℕ
@@ -36,13 +34,11 @@ abbrev pub placeSize : ℕ
 placeSize = 7
 
 -- "A free place is seven zeros"; "phase, direction, tries, partner"
-abbrev pub holdingBytes : Holding → List ℕ
-holdingBytes Free = replicate placeSize 0
-holdingBytes (Held d ph p) =
-    phaseNumber ph ∷ directionNumber d ∷ tries ph ∷ p .kind ∷ p .high ∷ p .middle ∷ p .low ∷ []
-
 abbrev pub placeBytes : Place → List ℕ
-placeBytes place = holdingBytes (place .holding)
+placeBytes place =
+    onHolding (replicate placeSize 0)
+    (λ d ph p. phaseNumber ph ∷ directionNumber d ∷ tries ph ∷ p .kind ∷ p .high ∷ p .middle ∷ p .low ∷ [])
+    (place .holding)
 
 -- the bytes of the places, one after the other
 abbrev pub placesBytes : List Place → List ℕ
@@ -89,19 +85,24 @@ unfoldable pub imaged : ℕ → State → List ℕ → List ℕ
 imaged n s buffer =
     cond (leb imageSize (length buffer)) (cond (sound n s) (imageOf s ++ drop imageSize buffer) buffer) buffer
 
--- the phase of a phase number and its tries; the bytes of no phase are told apart by writing the state again
-abbrev pub phased : ℕ → ℕ → Phase
-phased number t =
-    cond (eqb number 1) (Connecting t)
-    (cond (eqb number 2) (Contacting t) (cond (eqb number 3) Open (cond (eqb number 4) (Lost t) (Ending t))))
+-- Reading an image: it is accepted exactly when these bytes are the image of a sound state (`readBody`; that it is so are the promises
+-- `read-written` and `written-read`). The one state that can write them is found by decoding. Bytes that no state writes decode to
+-- some state too, and that one writes others.
 
-abbrev pub directed : ℕ → Direction
-directed number = cond (eqb number 0) Outgoing Incoming
+-- the phase of a phase number and its tries
+abbrev pub phaseOf : ℕ → ℕ → Phase
+phaseOf number t =
+    cond (eqb number (phaseNumber (Connecting t))) (Connecting t)
+    (cond (eqb number (phaseNumber (Contacting t))) (Contacting t)
+    (cond (eqb number (phaseNumber Open)) Open (cond (eqb number (phaseNumber (Lost t))) (Lost t) (Ending t))))
+
+abbrev pub directionOf : ℕ → Direction
+directionOf number = cond (eqb number (directionNumber Outgoing)) Outgoing Incoming
 
 -- "phase, direction, tries, partner"
 abbrev pub heldIn : List ℕ → Place
 heldIn s =
-    seat (directed (byte s 1)) (phased (byte s 0) (byte s 2))
+    seat (directionOf (byte s 1)) (phaseOf (byte s 0) (byte s 2))
     (record { kind = byte s 3; high = byte s 4; middle = byte s 5; low = byte s 6 })
 
 -- the place that the next seven bytes stand for: free where the phase is 0
@@ -115,6 +116,10 @@ placesIn (suc k) s = placeIn s ∷ placesIn k (drop placeSize s)
 -- the head of a body, eight bytes
 abbrev pub headSize : ℕ
 headSize = 8
+
+-- where the places of an image begin
+abbrev pub placesAt : ℕ
+placesAt = 1 + headSize
 
 -- the state that a body of bytes stands for, if any does
 unfoldable pub stateIn : List ℕ → State
@@ -135,10 +140,14 @@ sameBytes (x ∷ xs) (y ∷ ys) = eqb x y && sameBytes xs ys
 abbrev pub readRefused : ℕ → Started
 readRefused r = record { code = r; state = cold noLimits }
 
--- the body's state, where it is sound and these bytes are its own
+-- these bytes are the body of the image of this state, and the state is sound
+abbrev pub isBodyOf : ℕ → State → List ℕ → Bool
+isBodyOf n s body = sound n s && sameBytes (bodyBytes s) body
+
+-- accepted exactly where these bytes are the body of the image of a sound state, which is then the one that they decode to
 abbrev pub readBody : ℕ → List ℕ → Started
 readBody n body =
-    cond (sound n (stateIn body) && sameBytes (bodyBytes (stateIn body)) body)
+    cond (isBodyOf n (stateIn body) body)
     (record { code = accepted; state = stateIn body })
     (readRefused notSound)
 

@@ -1,16 +1,16 @@
 // Prints the image of a mixed state in hex, and what reading it answers.
-use image::read_image;
-use image::write_image;
+use image::read::read_image;
+use image::write::write_image;
 use libc::STDOUT_FILENO;
+use place::limits::Limits;
 use place::phase::Phase;
-use place::seat::Direction;
-use place::seat::Place;
-use place::turn::Limits;
+use place::place::Direction;
+use place::place::Place;
 use record::partner::Partner;
-use record::read::byte_at;
 use unit::state::Marks;
 use unit::state::State;
 use unit::state::Train;
+use wire::byte::byte_at;
 
 fn partner(kind: u8, high: u8, middle: u8, low: u8) -> Partner {
     Partner {

@@ -1,30 +1,28 @@
 -- A law of every turn is one of every cell of every row of the phase table.
--- Defines: onNext.
 -- Proves: by-row, judged-case.
 use Prim.Native.Nat.{ℕ}
 use Rattle.record.specs.declared.event.PartnerEvent.{PartnerEvent}
-use Rattle.record.proofs.Tests.{cond-holds, All, getD-all}
+use Rattle.wire.proofs.Tests.{cond-holds, All, getD-all}
 use Rattle.place.specs.Table.{refuse, table, column, firstTry, supported, judged, play, versionOf, turn, established, incompatible, terminate}
 use Rattle.place.specs.declared.phase.Phase.{Phase}
 use Rattle.place.specs.declared.phase.Phase.the-variants.{Open, Ending}
-use Rattle.place.specs.declared.turn.Limits.{Limits}
+use Rattle.place.specs.declared.limits.Limits.{Limits}
 use Rattle.place.specs.declared.turn.Turn.{Turn}
-use Rattle.place.specs.declared.turn.Turn.the-variants.{Refused, Released, Becomes, Sends, SendsBoth}
-
--- what is asked of the phase that a turn leads to, if it leads to one
-abbrev pub onNext : (Phase → Type 0) → Turn → Type 0
-onNext P Refused = Unit
-onNext P Released = Unit
-onNext P (Becomes q) = P q
-onNext P (Sends number q) = P q
-onNext P (SendsBoth first second q) = P q
+use Rattle.place.specs.declared.turn.Turn.the-variants.{Stays, Sends, SendsBoth}
 
 -- a law of every turn is one of every cell of every row
-pub by-row : (P : Phase → Turn → Type 0) (n : ℕ) (l : Limits) → ((ph : Phase) (v : ℕ) → All (λ c. P ph (play n l ph v c)) (table ph)) → ((ph : Phase) → P ph Refused) → (ph : Phase) (e : PartnerEvent) → P ph (turn n l ph e)
+pub by-row : (P : Phase → Turn → Type 0) (n : ℕ) (l : Limits)
+    → ((ph : Phase) (v : ℕ) → All (λ c. P ph (play n l ph v c)) (table ph))
+    → ((ph : Phase) → P ph Stays)
+    → (ph : Phase) (e : PartnerEvent)
+    → P ph (turn n l ph e)
 unfolding turn
 by-row P n l row outside ph e =
     getD-all (λ c. P ph (play n l ph (versionOf e) c)) (table ph) refuse (row ph (versionOf e)) (outside ph) (column e)
 
 -- a judged version opens the session or ends it
-pub judged-case : (P : Turn → Type 0) (l : Limits) (v : ℕ) → P (Sends established Open) → P (SendsBoth incompatible terminate (Ending firstTry)) → P (judged l v)
+pub judged-case : (P : Turn → Type 0) (l : Limits) (v : ℕ)
+    → P (Sends established Open)
+    → P (SendsBoth incompatible terminate (Ending firstTry))
+    → P (judged l v)
 judged-case P l v = cond-holds P (supported l v) (Sends established Open) (SendsBoth incompatible terminate (Ending firstTry))

@@ -1,5 +1,5 @@
 -- The table's cells as the code takes them: by number, and by what its tests showed.
--- Proves: cell-none, play-at, turn-by, judged-by, again-more, again-last, shut-by.
+-- Proves: cell-none, play-at, turn-by, judged-by, again-more, again-last, closedBy-known.
 use mathlib.Core.Path.{_≡_, refl, sym, ap, ap₂, _∙_}
 use mathlib.Core.Bool.{Bool, cond, _&&_}
 use Prim.Native.Nat.{ℕ, zero, suc, _+_, _/_, _≤_, _<_}
@@ -10,16 +10,18 @@ use borrow.Author.Tests.{lt-ltb, le-ltb}
 use Rattle.record.specs.declared.partner.Partner.{Partner}
 use Rattle.record.specs.declared.event.PartnerEvent.{PartnerEvent}
 use Rattle.place.specs.Places.{tries}
-use Rattle.place.specs.Table.{Cell, refuse, legend, cellOf, cell, judged, withTries, oneMore, again, play, turn, versionOf, established, incompatible, terminate, firstTry, closing, due, shutHolding}
+use Rattle.place.specs.Table.{Cell, refuse, cell, judged, withTries, oneMore, again, play, turn, versionOf, established, incompatible, terminate, firstTry, closing, closes}
+use Rattle.place.proofs.Holdings.{holdingClosedBy}
+use Rattle.place.specs.Cells.{legend, cellOf}
 use Rattle.place.specs.declared.phase.Phase.{Phase}
 use Rattle.place.specs.declared.phase.Phase.the-variants.{Open, Ending}
-use Rattle.place.specs.declared.seat.Direction.{Direction}
-use Rattle.place.specs.declared.seat.Holding.{Holding}
-use Rattle.place.specs.declared.seat.Holding.the-variants.{Held}
-use Rattle.place.specs.declared.turn.Limits.{Limits}
+use Rattle.place.specs.declared.place.Direction.{Direction}
+use Rattle.place.specs.declared.place.Holding.{Holding}
+use Rattle.place.specs.declared.place.Holding.the-variants.{Held}
+use Rattle.place.specs.declared.limits.Limits.{Limits}
 use Rattle.place.specs.declared.turn.Turn.{Turn}
-use Rattle.place.specs.declared.turn.Turn.the-variants.{Refused, Released, Sends, SendsBoth}
-use Rattle.place.specs.declared.turn.Due.{Due}
+use Rattle.place.specs.declared.turn.Turn.the-variants.{Stays, Released, Sends, SendsBoth}
+use Rattle.place.specs.declared.turn.Closing.{Closing}
 
 -- no cell below 1 or above 9 but the refusal
 pub cell-none : (choice : ℕ) → (1 ≤ choice → length legend ≤ choice) → cellOf choice ≡ refuse
@@ -27,14 +29,24 @@ cell-none zero above = refl
 cell-none (suc choice) above = List·getD-eq-default legend refuse (above (omega arith))
 
 -- what the cell of a known number makes of a phase
-pub play-at : (n : ℕ) (l : Limits) (ph : Phase) (v choice : ℕ) (c : Cell) (r : Turn) → cellOf choice ≡ c → r ≡ play n l ph v c → r ≡ play n l ph v (cellOf choice)
+pub play-at : (n : ℕ) (l : Limits) (ph : Phase) (v choice : ℕ) (c : Cell) (r : Turn)
+    → cellOf choice ≡ c
+    → r ≡ play n l ph v c
+    → r ≡ play n l ph v (cellOf choice)
 play-at n l ph v choice c r e h = h ∙ ap (play n l ph v) (sym e)
 
-pub turn-by : (n : ℕ) (l : Limits) (ph : Phase) (e : PartnerEvent) (v : ℕ) (c : Cell) → v ≡ versionOf e → c ≡ cell ph e → play n l ph v c ≡ turn n l ph e
+pub turn-by : (n : ℕ) (l : Limits) (ph : Phase) (e : PartnerEvent) (v : ℕ) (c : Cell)
+    → v ≡ versionOf e
+    → c ≡ cell ph e
+    → play n l ph v c ≡ turn n l ph e
 unfolding turn
 turn-by n l ph e v c version same = ap₂ (play n l ph) version same
 
-pub judged-by : (l : Limits) (v x : ℕ) (b t : Bool) → x ≡ v / 16 → b ≡ (leb (l .lowest) x && leb x (l .highest)) → b ≡ t → cond t (Sends established Open) (SendsBoth incompatible terminate (Ending firstTry)) ≡ judged l v
+pub judged-by : (l : Limits) (v x : ℕ) (b t : Bool)
+    → x ≡ v / 16
+    → b ≡ (leb (l .lowest) x && leb x (l .highest))
+    → b ≡ t
+    → cond t (Sends established Open) (SendsBoth incompatible terminate (Ending firstTry)) ≡ judged l v
 judged-by l v x b t of-version test known =
     ap (λ u. cond u (Sends established Open) (SendsBoth incompatible terminate (Ending firstTry)))
     (sym known ∙ test ∙ ap (λ y. leb (l .lowest) y && leb y (l .highest)) of-version)
@@ -49,6 +61,10 @@ module _ (n number : ℕ) (ph : Phase) (used : ℕ) (of-phase : used ≡ tries p
   again-last above = sym (ap (λ b. cond b (Sends number (oneMore ph)) Released) (le-ltb (tries ph) n (omega arith)))
 
 -- a closing by what the test for it showed
-pub shut-by : (which : Due) (k : Holding) (d : Direction) (ph : Phase) (p : Partner) (b t : Bool) → k ≡ Held d ph p → b ≡ due which ph p → b ≡ t → cond t (closing ph) Refused ≡ shutHolding which k
-shut-by which k d ph p b t held test known =
-    ap (λ u. cond u (closing ph) Refused) (sym known ∙ test) ∙ sym (ap (shutHolding which) held)
+pub closedBy-known : (which : Closing) (k : Holding) (d : Direction) (ph : Phase) (p : Partner) (b t : Bool)
+    → k ≡ Held d ph p
+    → b ≡ closes which ph p
+    → b ≡ t
+    → cond t (closing ph) Stays ≡ holdingClosedBy which k
+closedBy-known which k d ph p b t held test known =
+    ap (λ u. cond u (closing ph) Stays) (sym known ∙ test) ∙ sym (ap (holdingClosedBy which) held)

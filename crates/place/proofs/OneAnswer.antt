@@ -1,59 +1,139 @@
--- No second answer satisfies the contract of a public function: one line for each of this crate's, over the contract as the checker names it.
+-- No second answer satisfies the contract of a public function: a line for each of this crate's, over the contract as the checker names it.
+-- Proves: phase-number-once, phase-tries-once, phase-fits-incoming-once, phase-in-session-once, phase-not-ending-once,
+-- phase-in-range-once, phase-closing-once, phase-turn-once, direction-number-once, place-free-once, place-held-once,
+-- place-is-free-once, place-partner-once, place-holds-once, place-is-sound-once, place-turn-once, place-closed-by-once,
+-- place-after-once, turn-is-taken-once.
 use mathlib.Core.Path.{_≡_, sym, _∙_}
+use Rattle.place.proofs.phase.Phase.number.Reads as phase-number
+use Rattle.place.proofs.phase.Phase.tries.Reads as phase-tries
+use Rattle.place.proofs.phase.Phase.fits_incoming.Reads as phase-fits-incoming
+use Rattle.place.proofs.phase.Phase.in_session.Reads as phase-in-session
+use Rattle.place.proofs.phase.Phase.not_ending.Reads as phase-not-ending
+use Rattle.place.proofs.phase.Phase.in_range.Reads as phase-in-range
+use Rattle.place.proofs.phase.Phase.closing.Reads as phase-closing
+use Rattle.place.proofs.phase.Phase.turn.Reads as phase-turn
+use Rattle.place.proofs.place.Direction.number.Reads as direction-number
+use Rattle.place.proofs.place.Place.free.Reads as place-free
+use Rattle.place.proofs.place.Place.held.Reads as place-held
+use Rattle.place.proofs.place.Place.is_free.Reads as place-is-free
+use Rattle.place.proofs.place.Place.partner.Reads as place-partner
+use Rattle.place.proofs.place.Place.holds.Reads as place-holds
+use Rattle.place.proofs.place.Place.is_sound.Reads as place-is-sound
+use Rattle.place.proofs.place.Place.turn.Reads as place-turn
+use Rattle.place.proofs.place.Place.closed_by.Reads as place-closed-by
+use Rattle.place.proofs.place.Place.after.Reads as place-after
+use Rattle.place.proofs.turn.Turn.is_taken.Reads as turn-is-taken
 
-pub phase-number-once : (κ : _) (self : _) (r₁ : _) (r₂ : _) → Rattle.place.proofs.phase.Phase.number.Reads.Post κ (self, tt) r₁ (self, tt) → Rattle.place.proofs.phase.Phase.number.Reads.Post κ (self, tt) r₂ (self, tt) → r₁ ≡ r₂
+pub phase-number-once : (κ : _) (self : _) (r₁ : _) (r₂ : _)
+    → phase-number.Post κ (self, tt) r₁ (self, tt)
+    → phase-number.Post κ (self, tt) r₂ (self, tt)
+    → r₁ ≡ r₂
 phase-number-once κ self r₁ r₂ p q = p ∙ sym q
 
-pub phase-tries-once : (κ : _) (self : _) (r₁ : _) (r₂ : _) → Rattle.place.proofs.phase.Phase.tries.Reads.Post κ (self, tt) r₁ (self, tt) → Rattle.place.proofs.phase.Phase.tries.Reads.Post κ (self, tt) r₂ (self, tt) → r₁ ≡ r₂
+pub phase-tries-once : (κ : _) (self : _) (r₁ : _) (r₂ : _)
+    → phase-tries.Post κ (self, tt) r₁ (self, tt)
+    → phase-tries.Post κ (self, tt) r₂ (self, tt)
+    → r₁ ≡ r₂
 phase-tries-once κ self r₁ r₂ p q = p ∙ sym q
 
-pub phase-fits-incoming-once : (κ : _) (self : _) (r₁ : _) (r₂ : _) → Rattle.place.proofs.phase.Phase.fits_incoming.Reads.Post κ (self, tt) r₁ (self, tt) → Rattle.place.proofs.phase.Phase.fits_incoming.Reads.Post κ (self, tt) r₂ (self, tt) → r₁ ≡ r₂
+pub phase-fits-incoming-once : (κ : _) (self : _) (r₁ : _) (r₂ : _)
+    → phase-fits-incoming.Post κ (self, tt) r₁ (self, tt)
+    → phase-fits-incoming.Post κ (self, tt) r₂ (self, tt)
+    → r₁ ≡ r₂
 phase-fits-incoming-once κ self r₁ r₂ p q = p ∙ sym q
 
-pub phase-in-session-once : (κ : _) (self : _) (r₁ : _) (r₂ : _) → Rattle.place.proofs.phase.Phase.in_session.Reads.Post κ (self, tt) r₁ (self, tt) → Rattle.place.proofs.phase.Phase.in_session.Reads.Post κ (self, tt) r₂ (self, tt) → r₁ ≡ r₂
+pub phase-in-session-once : (κ : _) (self : _) (r₁ : _) (r₂ : _)
+    → phase-in-session.Post κ (self, tt) r₁ (self, tt)
+    → phase-in-session.Post κ (self, tt) r₂ (self, tt)
+    → r₁ ≡ r₂
 phase-in-session-once κ self r₁ r₂ p q = p ∙ sym q
 
-pub phase-not-ending-once : (κ : _) (self : _) (r₁ : _) (r₂ : _) → Rattle.place.proofs.phase.Phase.not_ending.Reads.Post κ (self, tt) r₁ (self, tt) → Rattle.place.proofs.phase.Phase.not_ending.Reads.Post κ (self, tt) r₂ (self, tt) → r₁ ≡ r₂
+pub phase-not-ending-once : (κ : _) (self : _) (r₁ : _) (r₂ : _)
+    → phase-not-ending.Post κ (self, tt) r₁ (self, tt)
+    → phase-not-ending.Post κ (self, tt) r₂ (self, tt)
+    → r₁ ≡ r₂
 phase-not-ending-once κ self r₁ r₂ p q = p ∙ sym q
 
-pub phase-in-range-once : (κ : _) (self : _) (r₁ : _) (r₂ : _) → Rattle.place.proofs.phase.Phase.in_range.Reads.Post κ (self, tt) r₁ (self, tt) → Rattle.place.proofs.phase.Phase.in_range.Reads.Post κ (self, tt) r₂ (self, tt) → r₁ ≡ r₂
+pub phase-in-range-once : (κ : _) (self : _) (r₁ : _) (r₂ : _)
+    → phase-in-range.Post κ (self, tt) r₁ (self, tt)
+    → phase-in-range.Post κ (self, tt) r₂ (self, tt)
+    → r₁ ≡ r₂
 phase-in-range-once κ self r₁ r₂ p q = p ∙ sym q
 
-pub phase-close-once : (κ : _) (self : _) (r₁ : _) (r₂ : _) → Rattle.place.proofs.phase.Phase.close.Reads.Post κ (self, tt) r₁ (self, tt) → Rattle.place.proofs.phase.Phase.close.Reads.Post κ (self, tt) r₂ (self, tt) → r₁ ≡ r₂
-phase-close-once κ self r₁ r₂ p q = p ∙ sym q
+pub phase-closing-once : (κ : _) (self : _) (r₁ : _) (r₂ : _)
+    → phase-closing.Post κ (self, tt) r₁ (self, tt)
+    → phase-closing.Post κ (self, tt) r₂ (self, tt)
+    → r₁ ≡ r₂
+phase-closing-once κ self r₁ r₂ p q = p ∙ sym q
 
-pub phase-turn-once : (κ : _) (self : _) (event : _) (limits : _) (r₁ : _) (r₂ : _) → Rattle.place.proofs.phase.Phase.turn.Reads.Post κ (self, (event, (limits, tt))) r₁ (self, (event, (limits, tt))) → Rattle.place.proofs.phase.Phase.turn.Reads.Post κ (self, (event, (limits, tt))) r₂ (self, (event, (limits, tt))) → r₁ ≡ r₂
+pub phase-turn-once : (κ : _) (self : _) (event : _) (limits : _) (r₁ : _) (r₂ : _)
+    → phase-turn.Post κ (self, (event, (limits, tt))) r₁ (self, (event, (limits, tt)))
+    → phase-turn.Post κ (self, (event, (limits, tt))) r₂ (self, (event, (limits, tt)))
+    → r₁ ≡ r₂
 phase-turn-once κ self event limits r₁ r₂ p q = p ∙ sym q
 
-pub direction-number-once : (κ : _) (self : _) (r₁ : _) (r₂ : _) → Rattle.place.proofs.seat.Direction.number.Reads.Post κ (self, tt) r₁ (self, tt) → Rattle.place.proofs.seat.Direction.number.Reads.Post κ (self, tt) r₂ (self, tt) → r₁ ≡ r₂
+pub direction-number-once : (κ : _) (self : _) (r₁ : _) (r₂ : _)
+    → direction-number.Post κ (self, tt) r₁ (self, tt)
+    → direction-number.Post κ (self, tt) r₂ (self, tt)
+    → r₁ ≡ r₂
 direction-number-once κ self r₁ r₂ p q = p ∙ sym q
 
-pub place-free-once : (κ : _) (r₁ : _) (r₂ : _) → Rattle.place.proofs.seat.Place.free.Reads.Post κ tt r₁ tt → Rattle.place.proofs.seat.Place.free.Reads.Post κ tt r₂ tt → r₁ ≡ r₂
+pub place-free-once : (κ : _) (r₁ : _) (r₂ : _)
+    → place-free.Post κ tt r₁ tt
+    → place-free.Post κ tt r₂ tt
+    → r₁ ≡ r₂
 place-free-once κ r₁ r₂ p q = p ∙ sym q
 
-pub place-held-once : (κ : _) (direction : _) (phase : _) (partner : _) (r₁ : _) (r₂ : _) → Rattle.place.proofs.seat.Place.held.Reads.Post κ (direction, (phase, (partner, tt))) r₁ (direction, (phase, (partner, tt))) → Rattle.place.proofs.seat.Place.held.Reads.Post κ (direction, (phase, (partner, tt))) r₂ (direction, (phase, (partner, tt))) → r₁ ≡ r₂
+pub place-held-once : (κ : _) (direction : _) (phase : _) (partner : _) (r₁ : _) (r₂ : _)
+    → place-held.Post κ (direction, (phase, (partner, tt))) r₁ (direction, (phase, (partner, tt)))
+    → place-held.Post κ (direction, (phase, (partner, tt))) r₂ (direction, (phase, (partner, tt)))
+    → r₁ ≡ r₂
 place-held-once κ direction phase partner r₁ r₂ p q = p ∙ sym q
 
-pub place-is-free-once : (κ : _) (self : _) (r₁ : _) (r₂ : _) → Rattle.place.proofs.seat.Place.is_free.Reads.Post κ (self, tt) r₁ (self, tt) → Rattle.place.proofs.seat.Place.is_free.Reads.Post κ (self, tt) r₂ (self, tt) → r₁ ≡ r₂
+pub place-is-free-once : (κ : _) (self : _) (r₁ : _) (r₂ : _)
+    → place-is-free.Post κ (self, tt) r₁ (self, tt)
+    → place-is-free.Post κ (self, tt) r₂ (self, tt)
+    → r₁ ≡ r₂
 place-is-free-once κ self r₁ r₂ p q = p ∙ sym q
 
-pub place-partner-once : (κ : _) (self : _) (r₁ : _) (r₂ : _) → Rattle.place.proofs.seat.Place.partner.Reads.Post κ (self, tt) r₁ (self, tt) → Rattle.place.proofs.seat.Place.partner.Reads.Post κ (self, tt) r₂ (self, tt) → r₁ ≡ r₂
+pub place-partner-once : (κ : _) (self : _) (r₁ : _) (r₂ : _)
+    → place-partner.Post κ (self, tt) r₁ (self, tt)
+    → place-partner.Post κ (self, tt) r₂ (self, tt)
+    → r₁ ≡ r₂
 place-partner-once κ self r₁ r₂ p q = p ∙ sym q
 
-pub place-holds-once : (κ : _) (self : _) (partner : _) (r₁ : _) (r₂ : _) → Rattle.place.proofs.seat.Place.holds.Reads.Post κ (self, (partner, tt)) r₁ (self, (partner, tt)) → Rattle.place.proofs.seat.Place.holds.Reads.Post κ (self, (partner, tt)) r₂ (self, (partner, tt)) → r₁ ≡ r₂
+pub place-holds-once : (κ : _) (self : _) (partner : _) (r₁ : _) (r₂ : _)
+    → place-holds.Post κ (self, (partner, tt)) r₁ (self, (partner, tt))
+    → place-holds.Post κ (self, (partner, tt)) r₂ (self, (partner, tt))
+    → r₁ ≡ r₂
 place-holds-once κ self partner r₁ r₂ p q = p ∙ sym q
 
-pub place-is-sound-once : (κ : _) (self : _) (r₁ : _) (r₂ : _) → Rattle.place.proofs.seat.Place.is_sound.Reads.Post κ (self, tt) r₁ (self, tt) → Rattle.place.proofs.seat.Place.is_sound.Reads.Post κ (self, tt) r₂ (self, tt) → r₁ ≡ r₂
+pub place-is-sound-once : (κ : _) (self : _) (r₁ : _) (r₂ : _)
+    → place-is-sound.Post κ (self, tt) r₁ (self, tt)
+    → place-is-sound.Post κ (self, tt) r₂ (self, tt)
+    → r₁ ≡ r₂
 place-is-sound-once κ self r₁ r₂ p q = p ∙ sym q
 
-pub place-turn-once : (κ : _) (self : _) (event : _) (limits : _) (r₁ : _) (r₂ : _) → Rattle.place.proofs.seat.Place.turn.Reads.Post κ (self, (event, (limits, tt))) r₁ (self, (event, (limits, tt))) → Rattle.place.proofs.seat.Place.turn.Reads.Post κ (self, (event, (limits, tt))) r₂ (self, (event, (limits, tt))) → r₁ ≡ r₂
+pub place-turn-once : (κ : _) (self : _) (event : _) (limits : _) (r₁ : _) (r₂ : _)
+    → place-turn.Post κ (self, (event, (limits, tt))) r₁ (self, (event, (limits, tt)))
+    → place-turn.Post κ (self, (event, (limits, tt))) r₂ (self, (event, (limits, tt)))
+    → r₁ ≡ r₂
 place-turn-once κ self event limits r₁ r₂ p q = p ∙ sym q
 
-pub place-shut-once : (κ : _) (self : _) (which : _) (r₁ : _) (r₂ : _) → Rattle.place.proofs.seat.Place.shut.Reads.Post κ (self, (which, tt)) r₁ (self, (which, tt)) → Rattle.place.proofs.seat.Place.shut.Reads.Post κ (self, (which, tt)) r₂ (self, (which, tt)) → r₁ ≡ r₂
-place-shut-once κ self which r₁ r₂ p q = p ∙ sym q
+pub place-closed-by-once : (κ : _) (self : _) (which : _) (r₁ : _) (r₂ : _)
+    → place-closed-by.Post κ (self, (which, tt)) r₁ (self, (which, tt))
+    → place-closed-by.Post κ (self, (which, tt)) r₂ (self, (which, tt))
+    → r₁ ≡ r₂
+place-closed-by-once κ self which r₁ r₂ p q = p ∙ sym q
 
-pub place-after-once : (κ : _) (self : _) (turn : _) (r₁ : _) (r₂ : _) → Rattle.place.proofs.seat.Place.after.Reads.Post κ (self, (turn, tt)) r₁ (self, (turn, tt)) → Rattle.place.proofs.seat.Place.after.Reads.Post κ (self, (turn, tt)) r₂ (self, (turn, tt)) → r₁ ≡ r₂
+pub place-after-once : (κ : _) (self : _) (turn : _) (r₁ : _) (r₂ : _)
+    → place-after.Post κ (self, (turn, tt)) r₁ (self, (turn, tt))
+    → place-after.Post κ (self, (turn, tt)) r₂ (self, (turn, tt))
+    → r₁ ≡ r₂
 place-after-once κ self turn r₁ r₂ p q = p ∙ sym q
 
-pub turn-is-taken-once : (κ : _) (self : _) (r₁ : _) (r₂ : _) → Rattle.place.proofs.turn.Turn.is_taken.Reads.Post κ (self, tt) r₁ (self, tt) → Rattle.place.proofs.turn.Turn.is_taken.Reads.Post κ (self, tt) r₂ (self, tt) → r₁ ≡ r₂
+pub turn-is-taken-once : (κ : _) (self : _) (r₁ : _) (r₂ : _)
+    → turn-is-taken.Post κ (self, tt) r₁ (self, tt)
+    → turn-is-taken.Post κ (self, tt) r₂ (self, tt)
+    → r₁ ≡ r₂
 turn-is-taken-once κ self r₁ r₂ p q = p ∙ sym q

@@ -1,6 +1,5 @@
 -- What every turn of a place keeps to, whatever the phase and the event.
--- Defines: NextSound.
--- Proves: closing-sound, turn-sound, turn-few, sessions-rbc, event-sound, shut-sound, after-seat, after-holds.
+-- Proves: closing-sound, turn-sound, turn-few, sessions-rbc, event-sound, closedBy-sound, after-seat, after-holds.
 use mathlib.Core.Path.{_≡_, refl}
 use mathlib.Core.Bool.{true, false, _&&_}
 use Prim.Native.Nat.{ℕ, _+_, _≤_, _<_}
@@ -11,26 +10,24 @@ use borrow.Author.Tests.{ltb-true, le-leb}
 use Rattle.record.specs.Partners.{isRbc, partnerOk}
 use Rattle.record.specs.declared.partner.Partner.{Partner}
 use Rattle.record.specs.declared.event.PartnerEvent.{PartnerEvent}
-use Rattle.record.proofs.Tests.{and-left, and-right, and-both, true-false, cond-case, cond-holds, All}
-use Rattle.place.specs.Places.{tries, phaseOk, incomingPhase, directionOk, holdingOk, placeOk, seat, holds, holdsIn}
-use Rattle.place.specs.Table.{table, closing, judged, oneMore, again, play, turn, numbers, placeAfter, holdingTurn, due, inSession, shutHolding}
+use Rattle.wire.proofs.Tests.{and-left, and-right, and-both, true-false, cond-case, cond-holds, All}
+use Rattle.place.specs.Places.{tries, phaseOk, fitsIncoming, fits, placeOk, seat, holds}
+use Rattle.place.proofs.Holdings.{holdingOk, holdsIn, holdingTurn, holdingClosedBy}
+use Rattle.place.specs.Table.{table, closing, judged, oneMore, again, play, turn, numbers, placeAfter, closes, inSession}
 use Rattle.place.specs.declared.phase.Phase.{Phase}
 use Rattle.place.specs.declared.phase.Phase.the-variants.{Connecting, Contacting, Open, Lost, Ending}
-use Rattle.place.specs.declared.seat.Direction.{Direction}
-use Rattle.place.specs.declared.seat.Direction.the-variants.{Outgoing, Incoming}
-use Rattle.place.specs.declared.seat.Holding.{Holding}
-use Rattle.place.specs.declared.seat.Holding.the-variants.{Free, Held}
-use Rattle.place.specs.declared.seat.Place.{Place}
-use Rattle.place.specs.declared.turn.Limits.{Limits}
+use Rattle.place.specs.declared.place.Direction.{Direction}
+use Rattle.place.specs.declared.place.Direction.the-variants.{Outgoing, Incoming}
+use Rattle.place.specs.declared.place.Holding.{Holding}
+use Rattle.place.specs.declared.place.Holding.the-variants.{Free, Held}
+use Rattle.place.specs.declared.place.Place.{Place}
+use Rattle.place.specs.declared.limits.Limits.{Limits}
 use Rattle.place.specs.declared.turn.Turn.{Turn}
-use Rattle.place.specs.declared.turn.Turn.the-variants.{Refused, Released, Becomes, Sends, SendsBoth}
-use Rattle.place.specs.declared.turn.Due.{Due}
-use Rattle.place.specs.declared.turn.Due.the-variants.{Sessions}
-use Rattle.place.proofs.ByRow.{onNext, by-row, judged-case}
-
--- the next phase is sound, and fit for an incoming place where the phase was
-abbrev pub NextSound : ℕ → Phase → Turn → Type 0
-NextSound n ph = onNext (λ q. (phaseOk n q ≡ true) × (incomingPhase ph ≡ true → incomingPhase q ≡ true))
+use Rattle.place.specs.declared.turn.Turn.the-variants.{Stays, Released, Becomes, Sends, SendsBoth}
+use Rattle.place.specs.declared.turn.Closing.{Closing}
+use Rattle.place.specs.declared.turn.Closing.the-variants.{Sessions}
+use Rattle.place.proofs.ByRow.{by-row, judged-case}
+use Rattle.place.specs.Turns.{NextSound, SeatOf}
 
 more-ok : (n : ℕ) (ph : Phase) → ltb (tries ph) n ≡ true → phaseOk n (oneMore ph) ≡ true
 more-ok n ph lt = by ph (ltb-true (tries ph) n lt)
@@ -45,7 +42,7 @@ more-ok n ph lt = by ph (ltb-true (tries ph) n lt)
     by (Lost t) h = within t (omega arith)
     by (Ending t) h = within t (omega arith)
 
-more-incoming : (ph : Phase) → incomingPhase ph ≡ true → incomingPhase (oneMore ph) ≡ true
+more-incoming : (ph : Phase) → fitsIncoming ph ≡ true → fitsIncoming (oneMore ph) ≡ true
 more-incoming (Connecting t) h = h
 more-incoming (Contacting t) h = h
 more-incoming Open h = h
@@ -88,7 +85,7 @@ module _ (n : ℕ) (some-try : 1 ≤ n) where
 
 -- a turn has at most two actions
 pub turn-few : (t : Turn) → length (numbers t) ≤ 2
-turn-few Refused = omega arith
+turn-few Stays = omega arith
 turn-few Released = omega arith
 turn-few (Becomes q) = omega arith
 turn-few (Sends number q) = omega arith
@@ -96,59 +93,72 @@ turn-few (SendsBoth first second q) = omega arith
 
 -- an RBC's order ends sessions with RBCs only
 -- promise
-pub sessions-rbc : (ph : Phase) (p : Partner) → due Sessions ph p ≡ true → isRbc p ≡ true
+pub sessions-rbc : (ph : Phase) (p : Partner)
+    → closes Sessions ph p ≡ true
+    → isRbc p ≡ true
 sessions-rbc ph p h = and-left (isRbc p) (inSession ph) h
 
 -- a direction that fits a phase fits the next one
-direction-next : (d : Direction) (ph q : Phase) (p : Partner) → directionOk d ph p ≡ true → (incomingPhase ph ≡ true → incomingPhase q ≡ true) → directionOk d q p ≡ true
+direction-next : (d : Direction) (ph q : Phase) (p : Partner)
+    → fits d ph p ≡ true
+    → (fitsIncoming ph ≡ true → fitsIncoming q ≡ true)
+    → fits d q p ≡ true
 direction-next Outgoing ph q p ok keeps = refl
 direction-next Incoming ph q p ok keeps =
-    and-both (isRbc p) (incomingPhase q) (and-left (isRbc p) (incomingPhase ph) ok) (keeps (and-right (isRbc p) (incomingPhase ph) ok))
+    and-both (isRbc p) (fitsIncoming q) (and-left (isRbc p) (fitsIncoming ph) ok) (keeps (and-right (isRbc p) (fitsIncoming ph) ok))
 
 -- a sound place after a turn that keeps to the phases is sound
-after-sound : (n : ℕ) (d : Direction) (ph : Phase) (p : Partner) (t : Turn) → placeOk n (seat d ph p) ≡ true → NextSound n ph t → placeOk n (placeAfter (seat d ph p) t) ≡ true
+after-sound : (n : ℕ) (d : Direction) (ph : Phase) (p : Partner) (t : Turn)
+    → placeOk n (seat d ph p) ≡ true
+    → NextSound n ph t
+    → placeOk n (placeAfter (seat d ph p) t) ≡ true
 after-sound n d ph p t ok = by t
   where
     partner : partnerOk p ≡ true
-    partner = and-left (partnerOk p) (phaseOk n ph && directionOk d ph p) ok
+    partner = and-left (partnerOk p) (phaseOk n ph && fits d ph p) ok
 
-    direction : directionOk d ph p ≡ true
-    direction = and-right (phaseOk n ph) (directionOk d ph p) (and-right (partnerOk p) (phaseOk n ph && directionOk d ph p) ok)
+    direction : fits d ph p ≡ true
+    direction = and-right (phaseOk n ph) (fits d ph p) (and-right (partnerOk p) (phaseOk n ph && fits d ph p) ok)
 
-    next : (q : Phase) → (phaseOk n q ≡ true) × (incomingPhase ph ≡ true → incomingPhase q ≡ true) → placeOk n (seat d q p) ≡ true
+    next : (q : Phase)
+        → (phaseOk n q ≡ true) × (fitsIncoming ph ≡ true → fitsIncoming q ≡ true)
+        → placeOk n (seat d q p) ≡ true
     next q sound =
-        and-both (partnerOk p) (phaseOk n q && directionOk d q p) partner
-        (and-both (phaseOk n q) (directionOk d q p) (sound .0) (direction-next d ph q p direction (sound .1)))
+        and-both (partnerOk p) (phaseOk n q && fits d q p) partner
+        (and-both (phaseOk n q) (fits d q p) (sound .0) (direction-next d ph q p direction (sound .1)))
 
     by : (t : Turn) → NextSound n ph t → placeOk n (placeAfter (seat d ph p) t) ≡ true
-    by Refused sound = ok
+    by Stays sound = ok
     by Released sound = refl
     by (Becomes q) sound = next q sound
     by (Sends number q) sound = next q sound
     by (SendsBoth first second q) sound = next q sound
 
 -- a sound place stays sound after an event that names its partner
-pub event-sound : (n : ℕ) → 1 ≤ n → (l : Limits) (k : Holding) (e : PartnerEvent) → holdingOk n k ≡ true → placeOk n (placeAfter (record { holding = k }) (holdingTurn n l k e)) ≡ true
+pub event-sound : (n : ℕ)
+    → 1 ≤ n
+    → (l : Limits) (k : Holding) (e : PartnerEvent)
+    → holdingOk n k ≡ true
+    → placeOk n (placeAfter (record { holding = k }) (holdingTurn n l k e)) ≡ true
 event-sound n some-try l Free e ok = refl
 event-sound n some-try l (Held d ph p) e ok = after-sound n d ph p (turn n l ph e) ok (turn-sound n some-try l ph e)
 
 -- and after a closing
-pub shut-sound : (n : ℕ) → 1 ≤ n → (which : Due) (k : Holding) → holdingOk n k ≡ true → placeOk n (placeAfter (record { holding = k }) (shutHolding which k)) ≡ true
-shut-sound n some-try which Free ok = refl
-shut-sound n some-try which (Held d ph p) ok =
-    cond-holds (λ t. placeOk n (placeAfter (seat d ph p) t) ≡ true) (due which ph p) (closing ph) Refused
+pub closedBy-sound : (n : ℕ)
+    → 1 ≤ n
+    → (which : Closing) (k : Holding)
+    → holdingOk n k ≡ true
+    → placeOk n (placeAfter (record { holding = k }) (holdingClosedBy which k)) ≡ true
+closedBy-sound n some-try which Free ok = refl
+closedBy-sound n some-try which (Held d ph p) ok =
+    cond-holds (λ t. placeOk n (placeAfter (seat d ph p) t) ≡ true) (closes which ph p) (closing ph) Stays
     (after-sound n d ph p (closing ph) ok (closing-sound n some-try ph))
     ok
-
--- free, or held by this partner in this direction
-abbrev SeatOf : Direction → Partner → Holding → Type 0
-SeatOf d p Free = Unit
-SeatOf d p (Held e ph q) = (e ≡ d) × (q ≡ p)
 
 -- "Direction never changes while the place is held", nor does the partner
 -- promise
 pub after-seat : (d : Direction) (ph : Phase) (p : Partner) (t : Turn) → SeatOf d p (placeAfter (seat d ph p) t .holding)
-after-seat d ph p Refused = (refl, refl)
+after-seat d ph p Stays = (refl, refl)
 after-seat d ph p Released = tt
 after-seat d ph p (Becomes q) = (refl, refl)
 after-seat d ph p (Sends number q) = (refl, refl)
@@ -159,7 +169,7 @@ pub after-holds : (q : Partner) (place : Place) (t : Turn) → holds q (placeAft
 after-holds q place t = by t (place .holding)
   where
     by : (t : Turn) (k : Holding) → holds q (placeAfter (record { holding = k }) t) ≡ true → holdsIn q k ≡ true
-    by Refused k h = h
+    by Stays k h = h
     by Released k h = true-false false h refl
     by (Becomes next) Free h = h
     by (Becomes next) (Held d ph p) h = h

@@ -1,2 +1,4 @@
 pub mod Places
 pub mod Table
+pub mod Turns
+pub mod Cells

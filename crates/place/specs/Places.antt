@@ -1,6 +1,6 @@
 -- Document 01, "What the box remembers", the part on one place.
--- Defines: phaseNumber, tries, directionNumber, tryLimit, vacant, seat, isFreeHolding, isFree, partnerIn, partnerOf, holdsIn, holds,
--- phaseOk, incomingPhase, directionOk, holdingOk, placeOk.
+-- Defines: phaseNumber, tries, directionNumber, tryLimit, vacant, seat, onHolding, isFree, partnerOf, holds, phaseOk, fitsIncoming,
+-- fits, placeOk.
 use Prim.Native.Nat.{ℕ}
 use mathlib.Core.Bool.{Bool, true, false, _&&_}
 use lib.Dec.{leb}
@@ -8,11 +8,11 @@ use Rattle.record.specs.Partners.{isRbc, partnerOk, samePartner}
 use Rattle.record.specs.declared.partner.Partner.{Partner}
 use Rattle.place.specs.declared.phase.Phase.{Phase}
 use Rattle.place.specs.declared.phase.Phase.the-variants.{Connecting, Contacting, Open, Lost, Ending}
-use Rattle.place.specs.declared.seat.Direction.{Direction}
-use Rattle.place.specs.declared.seat.Direction.the-variants.{Outgoing, Incoming}
-use Rattle.place.specs.declared.seat.Holding.{Holding}
-use Rattle.place.specs.declared.seat.Holding.the-variants.{Free, Held}
-use Rattle.place.specs.declared.seat.Place.{Place}
+use Rattle.place.specs.declared.place.Direction.{Direction}
+use Rattle.place.specs.declared.place.Direction.the-variants.{Outgoing, Incoming}
+use Rattle.place.specs.declared.place.Holding.{Holding}
+use Rattle.place.specs.declared.place.Holding.the-variants.{Free, Held}
+use Rattle.place.specs.declared.place.Place.{Place}
 
 -- "Phases: 1 Connecting, 2 Contacting, 3 Open, 4 Lost, 5 Ending"
 abbrev pub phaseNumber : Phase → ℕ
@@ -47,29 +47,22 @@ vacant = record { holding = Free }
 abbrev pub seat : Direction → Phase → Partner → Place
 seat d ph p = record { holding = Held d ph p }
 
-abbrev pub isFreeHolding : Holding → Bool
-isFreeHolding Free = true
-isFreeHolding (Held d ph p) = false
+-- what is said of a place that is free, and of one that holds a partner with its direction and phase
+abbrev pub onHolding : {A : Type 0} → A → (Direction → Phase → Partner → A) → Holding → A
+onHolding free held Free = free
+onHolding free held (Held d ph p) = held d ph p
 
 -- the place is free
 abbrev pub isFree : Place → Bool
-isFree place = isFreeHolding (place .holding)
+isFree place = onHolding true (λ d ph p. false) (place .holding)
 
 -- the partner of a place; all zeros where it is free
-abbrev pub partnerIn : Holding → Partner
-partnerIn Free = record { kind = 0; high = 0; middle = 0; low = 0 }
-partnerIn (Held d ph p) = p
-
 abbrev pub partnerOf : Place → Partner
-partnerOf place = partnerIn (place .holding)
-
-abbrev pub holdsIn : Partner → Holding → Bool
-holdsIn p Free = false
-holdsIn p (Held d ph q) = samePartner p q
+partnerOf place = onHolding (record { kind = 0; high = 0; middle = 0; low = 0 }) (λ d ph p. p) (place .holding)
 
 -- the place holds this partner
 abbrev pub holds : Partner → Place → Bool
-holds p place = holdsIn p (place .holding)
+holds p place = onHolding false (λ d ph q. samePartner p q) (place .holding)
 
 -- the tries used are in their range, n being the limit
 abbrev pub phaseOk : ℕ → Phase → Bool
@@ -80,22 +73,18 @@ phaseOk n (Lost t) = leb 1 t && leb t n
 phaseOk n (Ending t) = leb 1 t && leb t n
 
 -- "Connecting and Contacting are outgoing": the phases that an incoming place may have
-abbrev pub incomingPhase : Phase → Bool
-incomingPhase (Connecting t) = false
-incomingPhase (Contacting t) = false
-incomingPhase Open = true
-incomingPhase (Lost t) = true
-incomingPhase (Ending t) = true
+abbrev pub fitsIncoming : Phase → Bool
+fitsIncoming (Connecting t) = false
+fitsIncoming (Contacting t) = false
+fitsIncoming Open = true
+fitsIncoming (Lost t) = true
+fitsIncoming (Ending t) = true
 
 -- "no RIU is incoming, Connecting and Contacting are outgoing"
-abbrev pub directionOk : Direction → Phase → Partner → Bool
-directionOk Outgoing ph p = true
-directionOk Incoming ph p = isRbc p && incomingPhase ph
-
-abbrev pub holdingOk : ℕ → Holding → Bool
-holdingOk n Free = true
-holdingOk n (Held d ph p) = partnerOk p && (phaseOk n ph && directionOk d ph p)
+abbrev pub fits : Direction → Phase → Partner → Bool
+fits Outgoing ph p = true
+fits Incoming ph p = isRbc p && fitsIncoming ph
 
 -- the place is sound by itself
 abbrev pub placeOk : ℕ → Place → Bool
-placeOk n place = holdingOk n (place .holding)
+placeOk n place = onHolding true (λ d ph p. partnerOk p && (phaseOk n ph && fits d ph p)) (place .holding)

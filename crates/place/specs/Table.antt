@@ -1,7 +1,7 @@
 -- Document 01, "Rules of one step", the part on one place: the phase table, closing, judging a version.
--- Defines: request, release, incompatible, initiate, terminate, established, Cell, table, column, cell, legend, cellOf, firstTry,
--- closing, xOf, supported, judged, withTries, oneMore, again, versionOf, play, turn, takes, numbers, heldAfter, placeAfter,
--- holdingTurn, placeTurn, inSession, notEnding, due, shutHolding, shutTurn.
+-- Defines: request, release, incompatible, initiate, terminate, established, Cell, table, column, cell, firstTry,
+-- closing, xOf, supported, judged, withTries, oneMore, again, versionOf, play, turn, takes, numbers, inPhase, placeAfter,
+-- placeTurn, inSession, notEnding, closes, closedBy.
 use Prim.Native.Nat.{ℕ, _+_, _/_}
 use mathlib.Core.Bool.{Bool, true, false, cond, _&&_}
 use mathlib.Core.List.{List, [], _∷_}
@@ -11,17 +11,17 @@ use Rattle.record.specs.Partners.{isRbc}
 use Rattle.record.specs.declared.partner.Partner.{Partner}
 use Rattle.record.specs.declared.event.PartnerEvent.{PartnerEvent}
 use Rattle.record.specs.declared.event.PartnerEvent.the-variants.{Drop, Up, Loss, Timeout, Version, Ended}
-use Rattle.place.specs.Places.{tries, vacant, seat}
+use Rattle.place.specs.Places.{tries, vacant, seat, onHolding}
 use Rattle.place.specs.declared.phase.Phase.{Phase}
 use Rattle.place.specs.declared.phase.Phase.the-variants.{Connecting, Contacting, Open, Lost, Ending}
-use Rattle.place.specs.declared.seat.Holding.{Holding}
-use Rattle.place.specs.declared.seat.Holding.the-variants.{Free, Held}
-use Rattle.place.specs.declared.seat.Place.{Place}
-use Rattle.place.specs.declared.turn.Limits.{Limits}
+use Rattle.place.specs.declared.place.Holding.{Holding}
+use Rattle.place.specs.declared.place.Holding.the-variants.{Free, Held}
+use Rattle.place.specs.declared.place.Place.{Place}
+use Rattle.place.specs.declared.limits.Limits.{Limits}
 use Rattle.place.specs.declared.turn.Turn.{Turn}
-use Rattle.place.specs.declared.turn.Turn.the-variants.{Refused, Released, Becomes, Sends, SendsBoth}
-use Rattle.place.specs.declared.turn.Due.{Due}
-use Rattle.place.specs.declared.turn.Due.the-variants.{Every, Sessions, Nothing}
+use Rattle.place.specs.declared.turn.Turn.the-variants.{Stays, Released, Becomes, Sends, SendsBoth}
+use Rattle.place.specs.declared.turn.Closing.{Closing}
+use Rattle.place.specs.declared.turn.Closing.the-variants.{Every, Sessions, Nothing}
 
 -- "21 request connection, 22 release (also withdraws a request)"
 abbrev pub request : ℕ
@@ -62,7 +62,7 @@ pub data Cell : Type 0 where
 
 -- the table of 01, a row for each phase
 abbrev pub table : Phase → List Cell
---                     drop     up                          lost                timeout     32       39
+-- the columns: drop, up, lost, timeout, 32, 39
 table (Connecting t) = close ∷ turnTo 155 (Contacting 1) ∷ refuse ∷ retry 21 ∷ refuse ∷ refuse ∷ []
 table (Contacting t) = close ∷ refuse ∷ free ∷ retry 155 ∷ judge ∷ refuse ∷ []
 table Open = close ∷ refuse ∷ turnTo 21 (Lost 1) ∷ refuse ∷ refuse ∷ refuse ∷ []
@@ -81,24 +81,6 @@ column Ended = 5
 abbrev pub cell : Phase → PartnerEvent → Cell
 cell ph e = getD (table ph) (column e) refuse
 
--- the ten cells that the table has, as they stand there, by the numbers that the code gives them
-abbrev pub legend : List Cell
-legend =
-    refuse
-    ∷ close
-    ∷ free
-    ∷ turnTo 155 (Contacting 1)
-    ∷ turnTo 21 (Lost 1)
-    ∷ become Open
-    ∷ retry 21
-    ∷ retry 155
-    ∷ retry 156
-    ∷ judge
-    ∷ []
-
-abbrev pub cellOf : ℕ → Cell
-cellOf choice = getD legend choice refuse
-
 -- the first try in a phase
 abbrev pub firstTry : ℕ
 firstTry = 1
@@ -109,7 +91,7 @@ closing (Connecting t) = Released
 closing (Contacting t) = Released
 closing Open = Sends terminate (Ending firstTry)
 closing (Lost t) = Released
-closing (Ending t) = Refused
+closing (Ending t) = Stays
 
 -- the X of a version, 16·X + Y
 abbrev pub xOf : ℕ → ℕ
@@ -150,7 +132,7 @@ versionOf Ended = 0
 
 -- what a cell makes of a phase, n being the limit of tries
 abbrev pub play : ℕ → Limits → Phase → ℕ → Cell → Turn
-play n l ph version refuse = Refused
+play n l ph version refuse = Stays
 play n l ph version close = closing ph
 play n l ph version free = Released
 play n l ph version (turnTo number next) = Sends number next
@@ -164,7 +146,7 @@ turn n l ph e = play n l ph (versionOf e) (cell ph e)
 
 -- the event is taken: "\"no\" is refusal 7"
 abbrev pub takes : Turn → Bool
-takes Refused = false
+takes Stays = false
 takes Released = true
 takes (Becomes ph) = true
 takes (Sends number ph) = true
@@ -172,31 +154,27 @@ takes (SendsBoth first second ph) = true
 
 -- the numbers of a turn's actions, in their order
 abbrev pub numbers : Turn → List ℕ
-numbers Refused = []
+numbers Stays = []
 numbers Released = release ∷ []
 numbers (Becomes ph) = []
 numbers (Sends number ph) = number ∷ []
 numbers (SendsBoth first second ph) = first ∷ second ∷ []
 
 -- the place after a turn: "Direction never changes while the place is held"
-abbrev pub heldAfter : Holding → Phase → Place
-heldAfter Free next = vacant
-heldAfter (Held d ph p) next = seat d next p
+abbrev pub inPhase : Holding → Phase → Place
+inPhase Free next = vacant
+inPhase (Held d ph p) next = seat d next p
 
 abbrev pub placeAfter : Place → Turn → Place
-placeAfter place Refused = place
+placeAfter place Stays = place
 placeAfter place Released = vacant
-placeAfter place (Becomes next) = heldAfter (place .holding) next
-placeAfter place (Sends number next) = heldAfter (place .holding) next
-placeAfter place (SendsBoth first second next) = heldAfter (place .holding) next
-
-abbrev pub holdingTurn : ℕ → Limits → Holding → PartnerEvent → Turn
-holdingTurn n l Free e = Refused
-holdingTurn n l (Held d ph p) e = turn n l ph e
+placeAfter place (Becomes next) = inPhase (place .holding) next
+placeAfter place (Sends number next) = inPhase (place .holding) next
+placeAfter place (SendsBoth first second next) = inPhase (place .holding) next
 
 -- what an event that names the partner of a place makes of it
 abbrev pub placeTurn : ℕ → Limits → Place → PartnerEvent → Turn
-placeTurn n l place e = holdingTurn n l (place .holding) e
+placeTurn n l place e = onHolding Stays (λ d ph p. turn n l ph e) (place .holding)
 
 -- a session: Open or Lost
 abbrev pub inSession : Phase → Bool
@@ -214,15 +192,11 @@ notEnding Open = true
 notEnding (Lost t) = true
 notEnding (Ending t) = false
 
-abbrev pub due : Due → Phase → Partner → Bool
-due Every ph p = notEnding ph
-due Sessions ph p = isRbc p && inSession ph
-due Nothing ph p = false
+abbrev pub closes : Closing → Phase → Partner → Bool
+closes Every ph p = notEnding ph
+closes Sessions ph p = isRbc p && inSession ph
+closes Nothing ph p = false
 
 -- what a closing makes of a place
-abbrev pub shutHolding : Due → Holding → Turn
-shutHolding which Free = Refused
-shutHolding which (Held d ph p) = cond (due which ph p) (closing ph) Refused
-
-abbrev pub shutTurn : Due → Place → Turn
-shutTurn which place = shutHolding which (place .holding)
+abbrev pub closedBy : Closing → Place → Turn
+closedBy which place = onHolding Stays (λ d ph p. cond (closes which ph p) (closing ph) Stays) (place .holding)

@@ -1,17 +1,18 @@
 // The phases of a held place, and what each makes of an event.
 ghost use mathlib.Core.Path.{_≡_};
-ghost use Rattle.place.specs.Places.{phaseNumber, tries, tryLimit, phaseOk, incomingPhase};
-ghost use Rattle.place.specs.Table.{cell, cellOf, closing, judged, withTries, again, play, turn, versionOf, inSession, notEnding};
-use crate::turn::ESTABLISHED;
-use crate::turn::INCOMPATIBLE;
-use crate::turn::INITIATE;
-use crate::turn::Limits;
-use crate::turn::REQUEST;
-use crate::turn::TERMINATE;
+ghost use Rattle.place.specs.Places.{phaseNumber, tries, tryLimit, phaseOk, fitsIncoming};
+ghost use Rattle.place.specs.Table.{cell, closing, judged, withTries, again, play, turn, versionOf, inSession, notEnding};
+ghost use Rattle.place.specs.Cells.{cellOf};
+use crate::action::ESTABLISHED;
+use crate::action::INCOMPATIBLE;
+use crate::action::INITIATE;
+use crate::action::REQUEST;
+use crate::action::TERMINATE;
+use crate::limits::Limits;
 use crate::turn::Turn;
 use record::event::PartnerEvent;
-use record::number::word;
-use record::test::and;
+use wire::byte::word;
+use wire::join::and;
 
 // The phase of a held place, with the tries used; an open one has none.
 pub enum Phase {
@@ -191,7 +192,7 @@ impl Phase {
 
     // Whether an incoming place may have it.
     pub fn fits_incoming(self) -> bool
-        ensures { λ r. ⌜ r ≡ incomingPhase self ⌝ }
+        ensures { λ r. ⌜ r ≡ fitsIncoming self ⌝ }
     {
         match self {
             Phase::Connecting(_) => false,
@@ -242,7 +243,7 @@ impl Phase {
     }
 
     // Closing: a release, or from Open a termination; an ending place is not closed.
-    pub fn close(self) -> Turn
+    pub fn closing(self) -> Turn
         ensures { λ r. ⌜ r ≡ closing self ⌝ }
     {
         match self {
@@ -253,12 +254,12 @@ impl Phase {
                 phase: Phase::Ending(FIRST_TRY),
             },
             Phase::Lost(_) => Turn::Released,
-            Phase::Ending(_) => Turn::Refused,
+            Phase::Ending(_) => Turn::Stays,
         }
     }
 
     // One more try while fewer than the limit were used; else a release.
-    fn retry(self, number: u8) -> Turn
+    fn again(self, number: u8) -> Turn
         ensures { λ r. ⌜ r ≡ again tryLimit number self ⌝ }
     {
         let used = self.tries();
@@ -290,7 +291,7 @@ impl Phase {
         ensures { λ r. ⌜ r ≡ play tryLimit limits self version (cellOf choice) ⌝ }
     {
         match choice {
-            CLOSE => self.close(),
+            CLOSE => self.closing(),
             FREE => Turn::Released,
             CONTACT => Turn::Sends {
                 number: INITIATE,
@@ -301,11 +302,11 @@ impl Phase {
                 phase: Phase::Lost(FIRST_TRY),
             },
             REOPEN => Turn::Becomes(Phase::Open),
-            REQUEST_AGAIN => self.retry(REQUEST),
-            INITIATE_AGAIN => self.retry(INITIATE),
-            TERMINATE_AGAIN => self.retry(TERMINATE),
+            REQUEST_AGAIN => self.again(REQUEST),
+            INITIATE_AGAIN => self.again(INITIATE),
+            TERMINATE_AGAIN => self.again(TERMINATE),
             JUDGE => judge(version, limits),
-            _ => Turn::Refused,
+            _ => Turn::Stays,
         }
     }
 

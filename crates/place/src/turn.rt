@@ -1,30 +1,12 @@
-// Turns of a place, and the actions that they send.
+// Turns of a place: what an event or a closing makes of it.
 ghost use mathlib.Core.Path.{_≡_};
 ghost use Rattle.place.specs.Table.{takes};
 use crate::phase::Phase;
 
-// The six actions.
-pub const REQUEST: u8 = 21;
-
-pub const RELEASE: u8 = 22;
-
-pub const INCOMPATIBLE: u8 = 154;
-
-pub const INITIATE: u8 = 155;
-
-pub const TERMINATE: u8 = 156;
-
-pub const ESTABLISHED: u8 = 159;
-
-// The lowest and the highest supported version X.
-pub struct Limits {
-    pub lowest: u32,
-    pub highest: u32,
-}
-
-// What an event makes of a place: refused; released, with its one action; or another phase, with no, one or two actions.
+// What an event or a closing makes of a place: it stays as it is; it is released, with its one action; or it comes into another
+// phase, with no, one or two actions. An event that lets a place stay is refused.
 pub enum Turn {
-    Refused,
+    Stays,
     Released,
     Becomes(Phase),
     Sends { number: u8, phase: Phase },
@@ -32,7 +14,7 @@ pub enum Turn {
 }
 
 // Which places a closing is for: every one, the sessions that an RBC's order ends, or none.
-pub enum Due {
+pub enum Closing {
     Every,
     Sessions,
     Nothing,
@@ -44,7 +26,7 @@ impl Turn {
         ensures { λ r. ⌜ r ≡ takes self ⌝ }
     {
         match self {
-            Turn::Refused => false,
+            Turn::Stays => false,
             Turn::Released => true,
             Turn::Becomes(_) => true,
             Turn::Sends {

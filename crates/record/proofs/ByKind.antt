@@ -8,14 +8,20 @@ use native.Mathlib.Omega.{arith}
 use lib.Dec.{eqb}
 use lib.ListN.{length, List·getD-eq-default}
 use borrow.Author.Tests.{le-ltb, lt-ltb, eq-eqb, ne-eqb}
-use Rattle.record.specs.Records.{byte, causeOf, bodies, noBody, bodyOf, known, lengthOf, fields, reading}
-use Rattle.record.specs.Refusals.{wrongLength, unknownKind}
+use Rattle.record.specs.Records.{causeOf, bodies, noBody, bodyOf, known, lengthOf, fields, reading}
+use Rattle.wire.specs.Bytes.{byte}
+use Rattle.wire.specs.Refusals.{wrongLength, unknownKind}
 use Rattle.record.specs.declared.event.Cause.the-variants.{StartOfMission}
 use Rattle.record.specs.declared.event.Reading.{Reading}
 use Rattle.record.specs.declared.event.Reading.the-variants.{Refused}
 
 -- a byte that is no cause of 1 to 4 stands for the first
-pub cause-first : (b : ℕ) → (b ≡ 1 → ⊥) → (b ≡ 2 → ⊥) → (b ≡ 3 → ⊥) → (b ≡ 4 → ⊥) → causeOf b ≡ StartOfMission
+pub cause-first : (b : ℕ)
+    → (b ≡ 1 → ⊥)
+    → (b ≡ 2 → ⊥)
+    → (b ≡ 3 → ⊥)
+    → (b ≡ 4 → ⊥)
+    → causeOf b ≡ StartOfMission
 cause-first zero n₁ n₂ n₃ n₄ = refl
 cause-first (suc zero) n₁ n₂ n₃ n₄ = absurd (n₁ refl)
 cause-first (suc (suc zero)) n₁ n₂ n₃ n₄ = absurd (n₂ refl)
@@ -50,11 +56,17 @@ module _ (s : List ℕ) where
       by [] h = refl
       by (kind ∷ body) h = absurd (omega arith)
 
-  by-kind : (length s ≡ 0 → ⊥) → reading s ≡ cond (known (byte s 0)) (cond (eqb (length s) (lengthOf (byte s 0))) (fields (bodyOf (byte s 0)) s) (Refused wrongLength)) (Refused unknownKind)
+  by-kind :
+      (length s ≡ 0 → ⊥)
+      → reading s
+      ≡ cond (known (byte s 0)) (cond (eqb (length s) (lengthOf (byte s 0))) (fields (bodyOf (byte s 0)) s) (Refused wrongLength)) (Refused unknownKind)
   unfolding reading
   by-kind = by s
     where
-      by : (s : List ℕ) → (length s ≡ 0 → ⊥) → reading s ≡ cond (known (byte s 0)) (cond (eqb (length s) (lengthOf (byte s 0))) (fields (bodyOf (byte s 0)) s) (Refused wrongLength)) (Refused unknownKind)
+      by : (s : List ℕ)
+          → (length s ≡ 0 → ⊥)
+          → reading s
+          ≡ cond (known (byte s 0)) (cond (eqb (length s) (lengthOf (byte s 0))) (fields (bodyOf (byte s 0)) s) (Refused wrongLength)) (Refused unknownKind)
       by [] h = absurd (h refl)
       by (kind ∷ body) h = refl
 

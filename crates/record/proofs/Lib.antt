@@ -1,6 +1,4 @@
-pub mod Tests
+pub mod Partners
 pub mod Ranges
 pub mod ByKind
-pub mod Blocks
-pub mod Padded
 pub mod OneAnswer

@@ -1,5 +1,4 @@
 -- A record that is read is in its ranges; one that is refused has 1, 2 or 3.
--- Defines: readingOk.
 -- Proves: reading-ok, reading-number.
 use mathlib.Core.Path.{_≡_, refl}
 use mathlib.Core.Bool.{Bool, true, false, cond, _&&_, _||_}
@@ -10,20 +9,16 @@ use lib.Dec.{eqb, leb, ltb}
 use lib.ListN.{length}
 use borrow.Author.Tests.{leb-true}
 use Rattle.record.specs.Partners.{partnerOk}
-use Rattle.record.specs.Records.{reading, readingNumber, Body, bodies, bodyOf, noBody, partnerBody, byte, bit, causes, partnerIn, known, lengthOf, highestLevel, messageVersion, messageCall, messageEnded, highestVersion, messageOk, messageMeans, partnerEventOk, eventOk}
-use Rattle.record.specs.Refusals.{wrongLength, unknownKind, outOfRange}
+use Rattle.record.specs.Records.{reading, readingNumber, Body, bodies, bodyOf, noBody, partnerBody, causes, partnerIn, known, lengthOf, highestLevel, messageVersion, messageCall, messageEnded, highestVersion, messageOk, messageMeans, partnerEventOk, eventOk, readingOk}
+use Rattle.wire.specs.Bytes.{byte, bit}
+use Rattle.wire.specs.Refusals.{wrongLength, unknownKind, outOfRange}
 use Rattle.record.specs.declared.event.PartnerEvent.{PartnerEvent}
 use Rattle.record.specs.declared.event.PartnerEvent.the-variants.{Drop, Up, Loss, Timeout, Version, Ended}
 use Rattle.record.specs.declared.event.Event.the-variants.{Call, Named}
 use Rattle.record.specs.declared.event.Reading.{Reading}
 use Rattle.record.specs.declared.event.Reading.the-variants.{Meant, Refused}
 use Rattle.record.specs.declared.partner.Partner.{Partner}
-use Rattle.record.proofs.Tests.{and-left, and-right, and-both, true-false, cond-case, cond-holds, getD-all}
-
--- what a reading may be: an event in its ranges, or refusal 1, 2 or 3
-abbrev pub readingOk : Reading → Bool
-readingOk (Meant e) = eventOk e
-readingOk (Refused r) = leb wrongLength r && leb r outOfRange
+use Rattle.wire.proofs.Tests.{and-left, and-right, and-both, true-false, cond-case, cond-holds, getD-all}
 
 abbrev Ok : Reading → Type 0
 Ok r = readingOk r ≡ true
@@ -35,10 +30,15 @@ Ranged body = (s : List ℕ) → body .ranges s ≡ true → eventOk (body .mean
 partner-ranged : (e : PartnerEvent) → partnerEventOk e ≡ true → Ranged (partnerBody e)
 partner-ranged e h s ok = and-both (partnerOk (partnerIn s)) (partnerEventOk e) ok h
 
-message-ranged : (number version : ℕ) (p : Partner) → partnerOk p ≡ true → messageOk number version ≡ true → eventOk (messageMeans number version p) ≡ true
+message-ranged : (number version : ℕ) (p : Partner)
+    → partnerOk p ≡ true
+    → messageOk number version ≡ true
+    → eventOk (messageMeans number version p) ≡ true
 message-ranged number version p ok h = by (eqb number messageVersion) (eqb number messageCall) (eqb number messageEnded) h
   where
-    by : (a b c : Bool) → cond a (leb version highestVersion) ((b || c) && eqb version 0) ≡ true → eventOk (cond a (Named p (Version version)) (cond b (Call p) (Named p Ended))) ≡ true
+    by : (a b c : Bool)
+        → cond a (leb version highestVersion) ((b || c) && eqb version 0) ≡ true
+        → eventOk (cond a (Named p (Version version)) (cond b (Call p) (Named p Ended))) ≡ true
     by true b c h = and-both (partnerOk p) (leb version highestVersion) ok h
     by false true c h = ok
     by false false c h = and-both (partnerOk p) true ok refl

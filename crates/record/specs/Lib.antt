@@ -1,4 +1,2 @@
-pub mod Refusals
 pub mod Partners
 pub mod Records
-pub mod Blocks

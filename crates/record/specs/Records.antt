@@ -1,15 +1,16 @@
 -- Document 01, "Event records": the table of kinds, and reading one record.
 -- Defines: highestLevel, missionEnded, missionStarting, missionUnderWay, messageVersion, messageCall, messageEnded, highestVersion,
--- lengths, lengthOf, known, byte, kindOrder, kindLoss, kindMessage, bit, flag, partnerIn, causes, causeOf, Body, levelBody,
+-- lengths, lengthOf, known, kindOrder, kindLoss, kindMessage, partnerIn, causes, causeOf, Body, levelBody,
 -- missionBody, modeBody, holeBody, orderOk, orderMeans, orderBody, partnerBody, endAllBody, messageOk, messageMeans, messageBody,
--- noBody, bodies, bodyOf, fields, reading, readingNumber, partnerEventOk, eventOk.
+-- noBody, bodies, bodyOf, fields, reading, readingNumber, partnerEventOk, eventOk, readingOk.
 use Prim.Native.Nat.{ℕ}
 use mathlib.Core.Bool.{Bool, true, false, cond, _&&_, _||_}
 use mathlib.Core.List.{List, [], _∷_}
 use lib.Dec.{eqb, leb, ltb}
 use lib.ListN.{length, getD}
 use Rattle.record.specs.Partners.{partnerOk}
-use Rattle.record.specs.Refusals.{wrongLength, unknownKind, outOfRange, accepted}
+use Rattle.wire.specs.Bytes.{byte, bit, flag}
+use Rattle.wire.specs.Refusals.{wrongLength, unknownKind, outOfRange, accepted}
 use Rattle.record.specs.declared.partner.Partner.{Partner}
 use Rattle.record.specs.declared.event.Cause.{Cause}
 use Rattle.record.specs.declared.event.Cause.the-variants.{StartOfMission, Trackside, ModeChange, ManualLevel, HoleEnd}
@@ -59,10 +60,6 @@ lengthOf kind = getD lengths kind 0
 abbrev pub known : ℕ → Bool
 known kind = ltb 0 (lengthOf kind)
 
--- the byte at a place of the record, its kind standing at 0
-abbrev pub byte : List ℕ → ℕ → ℕ
-byte s i = getD s i 0
-
 -- the kinds that demand 3 counts by, as their byte stands in a record
 abbrev pub kindOrder : ℕ
 kindOrder = 5
@@ -72,13 +69,6 @@ kindLoss = 9
 
 abbrev pub kindMessage : ℕ
 kindMessage = 11
-
--- a field of 0 or 1
-abbrev pub bit : ℕ → Bool
-bit b = leb b 1
-
-abbrev pub flag : ℕ → Bool
-flag b = eqb b 1
 
 -- "Partner = type byte, three number bytes": it follows the kind
 abbrev pub partnerIn : List ℕ → Partner
@@ -215,3 +205,8 @@ eventOk (Order p accepting cause) = partnerOk p
 eventOk EndAll = true
 eventOk (Call p) = partnerOk p
 eventOk (Named p e) = partnerOk p && partnerEventOk e
+
+-- what a reading may be: an event in its ranges, or refusal 1, 2 or 3
+abbrev pub readingOk : Reading → Bool
+readingOk (Meant e) = eventOk e
+readingOk (Refused r) = leb wrongLength r && leb r outOfRange

@@ -1,7 +1,4 @@
 // Event records: the partner that one names, the event that it means, and reading one from its bytes.
 pub mod event;
-pub mod number;
 pub mod partner;
 pub mod read;
-pub mod refusal;
-pub mod test;

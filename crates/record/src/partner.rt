@@ -1,7 +1,7 @@
 // Partners: radio block centres and radio in-fill units.
 ghost use mathlib.Core.Path.{_≡_};
 ghost use Rattle.record.specs.Partners.{isRbc, partnerOk, samePartner};
-use crate::test::and;
+use wire::join::and;
 
 // The types of a partner.
 pub const RBC: u8 = 0;

@@ -4,18 +4,19 @@ ghost use Prim.Native.Nat.{_≤_};
 ghost use mathlib.Core.Bool.{cond, _&&_};
 ghost use lib.ListN.{length, getD};
 ghost use Rattle.record.specs.Partners.{partnerOk};
-ghost use Rattle.record.specs.Records.{lengthOf, partnerIn, causeOf, orderOk, orderMeans, messageOk, messageMeans, fields, bodyOf, levelBody, missionBody, holeBody, orderBody, partnerBody, endAllBody, messageBody, reading};
-ghost use Rattle.record.specs.Refusals.{outOfRange};
+ghost use Rattle.record.specs.Records.{lengthOf, partnerIn, causeOf, orderOk, orderMeans, messageOk, messageMeans, fields};
+ghost use Rattle.record.specs.Records.{bodyOf, levelBody, missionBody, holeBody, orderBody, partnerBody, endAllBody, messageBody, reading};
+ghost use Rattle.wire.specs.Refusals.{outOfRange};
 use crate::event::Cause;
 use crate::event::Event;
 use crate::event::PartnerEvent;
 use crate::event::Reading;
-use crate::number::word;
 use crate::partner::Partner;
-use crate::refusal::OUT_OF_RANGE;
-use crate::refusal::UNKNOWN_KIND;
-use crate::refusal::WRONG_LENGTH;
-use crate::test::and;
+use wire::byte::word;
+use wire::join::and;
+use wire::refusal::OUT_OF_RANGE;
+use wire::refusal::UNKNOWN_KIND;
+use wire::refusal::WRONG_LENGTH;
 
 // The kinds of record.
 pub const KIND_LEVEL: u8 = 1;
@@ -44,9 +45,9 @@ pub const KIND_MESSAGE: u8 = 11;
 const LENGTHS: [u8; 12] = [0, 3, 2, 1, 2, 7, 5, 2, 5, 5, 5, 7];
 
 // The largest level, mission and version, the number of causes, and the messages of a partner.
-const HIGHEST_LEVEL: u8 = 4;
+pub const HIGHEST_LEVEL: u8 = 4;
 
-const HIGHEST_MISSION: u8 = 2;
+pub const HIGHEST_MISSION: u8 = 2;
 
 const CAUSES: u8 = 5;
 
@@ -62,13 +63,6 @@ fn wide(n: u8) -> usize
     ensures { λ r. ⌜ r ≡ n ⌝ }
 {
     n as usize
-}
-
-// The byte at a place of a slice; 0 past its end.
-pub fn byte_at(s: &[u8], i: usize) -> u8
-    ensures { λ r. ⌜ r ≡ getD (now (s .entry)) i 0 ⌝ }
-{
-    if i < s.len() { s[i] } else { 0 }
 }
 
 // The length of a record of this kind; 0 where no kind has that number.
@@ -158,7 +152,8 @@ fn cause_of(b: u8) -> Cause
 }
 
 fn order_of(partner: Partner, accepting: u8, cause: u8) -> Reading
-    ensures { λ r. ⌜ r ≡ cond (orderOk partner accepting cause) (Reading.Meant (orderMeans partner accepting cause)) (Reading.Refused outOfRange) ⌝ }
+    ensures { λ r.
+        ⌜ r ≡ cond (orderOk partner accepting cause) (Reading.Meant (orderMeans partner accepting cause)) (Reading.Refused outOfRange) ⌝ }
 {
     within(
         and(partner.in_range(), and(accepting <= 1, cause < CAUSES)),
@@ -193,7 +188,10 @@ fn end_all_body(s: &[u8]) -> Reading
 }
 
 fn message_of(partner: Partner, number: u8, version: u8) -> Reading
-    ensures { λ r. ⌜ r ≡ cond (partnerOk partner && messageOk number version) (Reading.Meant (messageMeans number version partner)) (Reading.Refused outOfRange) ⌝ }
+    ensures { λ r.
+        ⌜ r
+        ≡ cond (partnerOk partner && messageOk number version) (Reading.Meant (messageMeans number version partner))
+        (Reading.Refused outOfRange) ⌝ }
 {
     let known = partner.in_range();
     if number == MESSAGE_VERSION {

@@ -1,11 +1,11 @@
 // Prints what a run over the log on standard input answers, from a cold start with X from 1 to 2 and a budget that no log uses up.
 use libc::STDIN_FILENO;
 use libc::STDOUT_FILENO;
-use place::turn::Limits;
+use place::limits::Limits;
 use run::Report;
 use run::Totals;
 use run::run;
-use unit::state::cold_start;
+use unit::start::cold_start;
 
 fn number(n: u64) {
     io::print_decimal(STDOUT_FILENO, n);

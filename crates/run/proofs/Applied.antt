@@ -8,20 +8,20 @@ use native.Mathlib.Omega.{arith}
 use lib.Dec.{leb, lit≤}
 use lib.ListN.{length, take}
 use borrow.Author.Tests.{leb-true}
-use Rattle.record.specs.Records.{reading}
-use Rattle.record.specs.Refusals.{accepted, wrongLength, outOfRange}
+use Rattle.record.specs.Records.{reading, readingOk}
+use Rattle.wire.specs.Refusals.{accepted, wrongLength, outOfRange}
 use Rattle.record.specs.declared.event.Event.{Event}
 use Rattle.record.specs.declared.event.Reading.{Reading}
 use Rattle.record.specs.declared.event.Reading.the-variants.{Refused}
-use Rattle.record.proofs.Tests.{and-left}
-use Rattle.record.proofs.Ranges.{readingOk, reading-ok}
+use Rattle.wire.proofs.Tests.{and-left}
+use Rattle.record.proofs.Ranges.{reading-ok}
 use Rattle.unit.specs.States.{sound}
 use Rattle.unit.specs.Steps.{Outcome, refused, step}
 use Rattle.unit.specs.OnRecords.{actionRoom, onReading, onRecord}
 use Rattle.unit.specs.Forms.{mostActions, listed, packed}
 use Rattle.unit.specs.declared.state.State.{State}
 use Rattle.unit.specs.declared.answer.Answer.{Answer}
-use Rattle.unit.proofs.AsGiven.{step-kept}
+use Rattle.unit.proofs.Agreed.Refusals.{step-kept}
 use Rattle.unit.proofs.Written.{listed-take}
 use Rattle.unit.proofs.OnBytes.{on-reading}
 use Rattle.run.specs.Runs.{totalled, counted}
@@ -42,7 +42,12 @@ module _ (n : ℕ) (s : State) (bytes : List ℕ) (good : sound n s ≡ true) (r
       omega arith
 
 -- the answer of an accepted step, counted
-pub applied-done : (t : Tally) (k : ℕ) (o : Outcome) (a : Answer) (totals : Totals) → a ≡ packed o → length (o .actions) ≤ mostActions → a .code ≡ accepted → totals ≡ totalled (t .totals) (take (a .actions .count) (a .actions .items)) → _≡_ {A = Tally} (record { state = a .state; offset = t .offset + k; read = t .read + 1; refused = t .refused; totals = totals }) (counted t k o)
+pub applied-done : (t : Tally) (k : ℕ) (o : Outcome) (a : Answer) (totals : Totals)
+    → a ≡ packed o
+    → length (o .actions) ≤ mostActions
+    → a .code ≡ accepted
+    → totals ≡ totalled (t .totals) (take (a .actions .count) (a .actions .items))
+    → _≡_ {A = Tally} (record { state = a .state; offset = t .offset + k; read = t .read + 1; refused = t .refused; totals = totals }) (counted t k o)
 unfolding packed listed
 applied-done t k o a totals e few code sum =
     (λ i.
@@ -56,7 +61,10 @@ applied-done t k o a totals e few code sum =
     ∙ counted-done t k o (sym (ap (λ x. x .code) e) ∙ code)
 
 -- a step that was refused, counted
-pub applied-kept : (t : Tally) (k n : ℕ) (e : Event) (a : Answer) → a ≡ packed (step n (t .state) e) → (a .code ≡ accepted → ⊥) → counted t k (refused outOfRange (t .state)) ≡ counted t k (step n (t .state) e)
+pub applied-kept : (t : Tally) (k n : ℕ) (e : Event) (a : Answer)
+    → a ≡ packed (step n (t .state) e)
+    → (a .code ≡ accepted → ⊥)
+    → counted t k (refused outOfRange (t .state)) ≡ counted t k (step n (t .state) e)
 unfolding packed
 applied-kept t k n e a is other =
     let code : step n (t .state) e .code ≡ accepted → ⊥ = λ h. other (ap (λ x. x .code) is ∙ h) in

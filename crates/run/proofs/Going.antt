@@ -11,13 +11,14 @@ use lib.ListN.{length, getD, take, drop, length-drop}
 use lib.Seq.{drop-drop, getD-take, getD-drop, length-take-le}
 use borrow.Author.Tests.{ltb-true, leb-true}
 use Rattle.record.specs.Records.{known, lengthOf, bodyOf, fields, reading}
-use Rattle.record.proofs.Tests.{cond-case}
+use Rattle.wire.proofs.Tests.{cond-case}
 use Rattle.record.proofs.ByKind.{read-fields}
 use Rattle.unit.specs.States.{sound}
 use Rattle.unit.specs.OnRecords.{actionRoom, onRecord}
 use Rattle.unit.proofs.Sound.{onRecord-sound}
 use Rattle.unit.proofs.Few.{onRecord-few}
-use Rattle.run.specs.Runs.{recordShort, kindUnknown, longestLog, takeOne, Bounded, counted, go}
+use Rattle.run.specs.Runs.{recordShort, kindUnknown, longestLog, takeOne, counted, go}
+use Rattle.run.specs.Counting.{Bounded}
 use Rattle.run.specs.declared.Tally.{Tally}
 use Rattle.run.specs.declared.Taken.{Taken}
 use Rattle.run.specs.declared.Taken.the-variants.{Whole, Stopped}
@@ -29,7 +30,10 @@ abbrev WholeOk : List ℕ → ℕ → Taken → Type 0
 WholeOk log at (Whole k) = (k ≡ lengthOf (getD log at 0)) × (1 ≤ k) × (k ≤ length log - at)
 WholeOk log at (Stopped stop) = Unit
 
-pub whole-ok : (log : List ℕ) (at k : ℕ) → at < length log → takeOne (drop at log) ≡ Whole k → (k ≡ lengthOf (getD log at 0)) × (1 ≤ k) × (k ≤ length log - at)
+pub whole-ok : (log : List ℕ) (at k : ℕ)
+    → at < length log
+    → takeOne (drop at log) ≡ Whole k
+    → (k ≡ lengthOf (getD log at 0)) × (1 ≤ k) × (k ≤ length log - at)
 whole-ok log at k below e = subst (WholeOk log at) (sym (by-kind log at below) ∙ e) facts
   where
     l : ℕ
@@ -70,7 +74,10 @@ module _ (n : ℕ) (some-try : 1 ≤ n) (log : List ℕ) (t : Tally) (k : ℕ) (
       read-fields part (length part) (λ h. omega (arith, part-length, ok .1)) (part-length ∙ ok .0 ∙ ap lengthOf (sym part-kind)) (λ h. omega (arith, part-length, ok .1)) refl
 
   -- what the step on it asks
-  pub part-ready : Bounded t → sound n (t .state) ≡ true → Bounded t × (t .offset + length part ≤ longestLog) × (sound n (t .state) ≡ true)
+  pub part-ready :
+      Bounded t
+      → sound n (t .state) ≡ true
+      → Bounded t × (t .offset + length part ≤ longestLog) × (sound n (t .state) ≡ true)
   part-ready bounded good =
       let ok = whole-ok log (t .offset) k below e in
       (bounded, omega (arith, part-length, ok .2), good)
@@ -92,7 +99,11 @@ module _ (n : ℕ) (some-try : 1 ≤ n) (log : List ℕ) (t : Tally) (k : ℕ) (
     state-next = ap (λ x. x .state) is-next
 
     -- the run goes on
-    pub run-next : (left : ℕ) → Bounded t → sound n (t .state) ≡ true → (left ≡ 0 → ⊥) → (u .offset ≤ length log) × Bounded u × (sound n (u .state) ≡ true) × (go n left t (drop (t .offset) log) ≡ go n (left - 1) u (drop (u .offset) log))
+    pub run-next : (left : ℕ)
+        → Bounded t
+        → sound n (t .state) ≡ true
+        → (left ≡ 0 → ⊥)
+        → (u .offset ≤ length log) × Bounded u × (sound n (u .state) ≡ true) × (go n left t (drop (t .offset) log) ≡ go n (left - 1) u (drop (u .offset) log))
     unfolding next
     run-next left bounded good some =
         let ok = whole-ok log (t .offset) k below e in (

@@ -1,4 +1,3 @@
-pub mod AllRecords
 pub mod Tallies
 pub mod Takes
 pub mod Applied
@@ -7,3 +6,4 @@ pub mod Starting
 pub mod Steps
 pub mod Codes
 pub mod OneAnswer
+pub mod Agreed

@@ -6,7 +6,7 @@ use mathlib.Core.List.{List}
 use Prim.Native.Nat.{ℕ, _≤_, _<_}
 use lib.ListN.{length}
 use borrow.Author.Tests.{le-leb, lt-leb}
-use Rattle.record.specs.Refusals.{notSound, logTooLong}
+use Rattle.wire.specs.Refusals.{notSound, logTooLong}
 use Rattle.unit.specs.States.{sound}
 use Rattle.unit.specs.declared.state.State.{State}
 use Rattle.run.specs.Runs.{longestLog, fresh, go, runRefused, run}

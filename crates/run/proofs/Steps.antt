@@ -8,27 +8,32 @@ use native.Mathlib.Nat.{add-zero, zero-add}
 use native.Mathlib.Omega.{arith}
 use lib.Dec.{eqb, leb}
 use lib.ListN.{length, take, drop}
-use Rattle.record.specs.Refusals as refusal
-use Rattle.record.proofs.Tests.{cond-case, cond-holds}
+use Rattle.wire.specs.Refusals as refusal
+use Rattle.wire.proofs.Tests.{cond-case, cond-holds}
 use Rattle.place.specs.Table.{request, release, incompatible, initiate, terminate, established}
 use Rattle.unit.specs.States.{sound}
 use Rattle.unit.specs.Steps.{Outcome, refused}
 use Rattle.unit.specs.OnRecords.{actionRoom, onRecord}
 use Rattle.unit.specs.declared.state.State.{State}
-use Rattle.run.specs.Runs.{longestLog, takeOne, onTaken, steps, count, totalled, counted, fresh, ended, go, runRefused, run, sumOf}
+use Rattle.run.specs.Runs.{longestLog, takeOne, onTaken, steps, totalOf, totalled, counted, fresh, ended, go, runRefused, run, sumOf}
 use Rattle.run.specs.declared.Tally.{Tally}
 use Rattle.run.specs.declared.Taken.{Taken}
 use Rattle.run.specs.declared.Taken.the-variants.{Whole, Stopped}
 
 -- a count that each record changes by what its step counts for is the sum over the steps
 module _ (f : Tally → ℕ) (w : Outcome → ℕ) (each : (t : Tally) (k : ℕ) (o : Outcome) → f (counted t k o) ≡ f t + w o) (n : ℕ) where
-  pub go-sum : (budget : ℕ) (t : Tally) (log : List ℕ) → f (go n budget t log .tally) ≡ f t + sumOf w (steps n budget (t .state) log)
+  pub go-sum : (budget : ℕ) (t : Tally) (log : List ℕ)
+      → f (go n budget t log .tally) ≡ f t + sumOf w (steps n budget (t .state) log)
   unfolding go steps sumOf counted
   go-sum zero t [] = sym (add-zero (f t))
   go-sum zero t (x ∷ log) = sym (add-zero (f t))
   go-sum (suc budget) t log = by (takeOne log) (λ k. go-sum budget (counted t k (onRecord n (t .state) (take k log) actionRoom)) (drop k log))
     where
-      by : (x : Taken) → ((k : ℕ) → f (go n budget (counted t k (onRecord n (t .state) (take k log) actionRoom)) (drop k log) .tally) ≡ f (counted t k (onRecord n (t .state) (take k log) actionRoom)) + sumOf w (steps n budget (onRecord n (t .state) (take k log) actionRoom .state) (drop k log))) → f (onTaken x (λ stop. ended t stop) (λ k. go n budget (counted t k (onRecord n (t .state) (take k log) actionRoom)) (drop k log)) .tally) ≡ f t + sumOf w (onTaken x (λ stop. []) (λ k. onRecord n (t .state) (take k log) actionRoom ∷ steps n budget (onRecord n (t .state) (take k log) actionRoom .state) (drop k log)))
+      by : (x : Taken)
+          → ((k : ℕ) → f (go n budget (counted t k (onRecord n (t .state) (take k log) actionRoom)) (drop k log) .tally) ≡ f (counted t k (onRecord n (t .state) (take k log) actionRoom)) + sumOf w (steps n budget (onRecord n (t .state) (take k log) actionRoom .state) (drop k log)))
+          → f (onTaken x (λ stop. ended t stop) (λ k. go n budget (counted t k (onRecord n (t .state) (take k log) actionRoom)) (drop k log)) .tally)
+          ≡ f t
+          + sumOf w (onTaken x (λ stop. []) (λ k. onRecord n (t .state) (take k log) actionRoom ∷ steps n budget (onRecord n (t .state) (take k log) actionRoom .state) (drop k log)))
       by (Stopped stop) rest = sym (add-zero (f t))
       by (Whole k) rest =
           let o = onRecord n (t .state) (take k log) actionRoom in
@@ -59,7 +64,10 @@ module _ (n : ℕ) (s : State) (log : List ℕ) (budget : ℕ) (taken : run n s 
   the-steps : List Outcome
   the-steps = steps n budget s log
 
-  summed : (f : Tally → ℕ) (w : Outcome → ℕ) → ((t : Tally) (k : ℕ) (o : Outcome) → f (counted t k o) ≡ f t + w o) → f (fresh s) ≡ 0 → f (run n s log budget .tally) ≡ sumOf w the-steps
+  summed : (f : Tally → ℕ) (w : Outcome → ℕ)
+      → ((t : Tally) (k : ℕ) (o : Outcome) → f (counted t k o) ≡ f t + w o)
+      → f (fresh s) ≡ 0
+      → f (run n s log budget .tally) ≡ sumOf w the-steps
   unfolding the-steps
   summed f w each none =
       ap (λ r. f (r .tally)) is-go ∙ go-sum f w each n budget (fresh s) log ∙ ap (λ x. x + sumOf w (steps n budget s log)) none ∙ zero-add (sumOf w (steps n budget s log))
@@ -72,37 +80,51 @@ module _ (n : ℕ) (s : State) (log : List ℕ) (budget : ℕ) (taken : run n s 
 
   -- those refused are the steps with a number
   -- promise
-  pub run-refused : run n s log budget .tally .refused ≡ sumOf (λ o. cond (eqb (o .code) refusal.accepted) 0 1) (steps n budget s log)
+  pub run-refused :
+      run n s log budget .tally .refused
+      ≡ sumOf (λ o. cond (eqb (o .code) refusal.accepted) 0 1) (steps n budget s log)
   unfolding the-steps counted
   run-refused = summed (λ t. t .refused) (λ o. cond (eqb (o .code) refusal.accepted) 0 1) (λ t k o. refl) refl
 
   -- "each total is the sum over those steps' actions"
   -- promise
-  pub run-request : run n s log budget .tally .totals .request ≡ sumOf (λ o. count request (o .actions)) (steps n budget s log)
+  pub run-request :
+      run n s log budget .tally .totals .request
+      ≡ sumOf (λ o. totalOf request (o .actions)) (steps n budget s log)
   unfolding the-steps counted totalled
-  run-request = summed (λ t. t .totals .request) (λ o. count request (o .actions)) (λ t k o. refl) refl
+  run-request = summed (λ t. t .totals .request) (λ o. totalOf request (o .actions)) (λ t k o. refl) refl
 
   -- promise
-  pub run-release : run n s log budget .tally .totals .release ≡ sumOf (λ o. count release (o .actions)) (steps n budget s log)
+  pub run-release :
+      run n s log budget .tally .totals .release
+      ≡ sumOf (λ o. totalOf release (o .actions)) (steps n budget s log)
   unfolding the-steps counted totalled
-  run-release = summed (λ t. t .totals .release) (λ o. count release (o .actions)) (λ t k o. refl) refl
+  run-release = summed (λ t. t .totals .release) (λ o. totalOf release (o .actions)) (λ t k o. refl) refl
 
   -- promise
-  pub run-incompatible : run n s log budget .tally .totals .incompatible ≡ sumOf (λ o. count incompatible (o .actions)) (steps n budget s log)
+  pub run-incompatible :
+      run n s log budget .tally .totals .incompatible
+      ≡ sumOf (λ o. totalOf incompatible (o .actions)) (steps n budget s log)
   unfolding the-steps counted totalled
-  run-incompatible = summed (λ t. t .totals .incompatible) (λ o. count incompatible (o .actions)) (λ t k o. refl) refl
+  run-incompatible = summed (λ t. t .totals .incompatible) (λ o. totalOf incompatible (o .actions)) (λ t k o. refl) refl
 
   -- promise
-  pub run-initiate : run n s log budget .tally .totals .initiate ≡ sumOf (λ o. count initiate (o .actions)) (steps n budget s log)
+  pub run-initiate :
+      run n s log budget .tally .totals .initiate
+      ≡ sumOf (λ o. totalOf initiate (o .actions)) (steps n budget s log)
   unfolding the-steps counted totalled
-  run-initiate = summed (λ t. t .totals .initiate) (λ o. count initiate (o .actions)) (λ t k o. refl) refl
+  run-initiate = summed (λ t. t .totals .initiate) (λ o. totalOf initiate (o .actions)) (λ t k o. refl) refl
 
   -- promise
-  pub run-terminate : run n s log budget .tally .totals .terminate ≡ sumOf (λ o. count terminate (o .actions)) (steps n budget s log)
+  pub run-terminate :
+      run n s log budget .tally .totals .terminate
+      ≡ sumOf (λ o. totalOf terminate (o .actions)) (steps n budget s log)
   unfolding the-steps counted totalled
-  run-terminate = summed (λ t. t .totals .terminate) (λ o. count terminate (o .actions)) (λ t k o. refl) refl
+  run-terminate = summed (λ t. t .totals .terminate) (λ o. totalOf terminate (o .actions)) (λ t k o. refl) refl
 
   -- promise
-  pub run-established : run n s log budget .tally .totals .established ≡ sumOf (λ o. count established (o .actions)) (steps n budget s log)
+  pub run-established :
+      run n s log budget .tally .totals .established
+      ≡ sumOf (λ o. totalOf established (o .actions)) (steps n budget s log)
   unfolding the-steps counted totalled
-  run-established = summed (λ t. t .totals .established) (λ o. count established (o .actions)) (λ t k o. refl) refl
+  run-established = summed (λ t. t .totals .established) (λ o. totalOf established (o .actions)) (λ t k o. refl) refl

@@ -49,7 +49,11 @@ go-nil n t zero = refl
 go-nil n t (suc budget) = refl
 
 -- a run with a budget takes what stands at the front
-go-suc : (n : ℕ) (t : Tally) (budget : ℕ) → (budget ≡ 0 → ⊥) → (rest : List ℕ) → go n budget t rest ≡ onTaken (takeOne rest) (λ stop. ended t stop) (λ k. go n (budget - 1) (counted t k (onRecord n (t .state) (take k rest) actionRoom)) (drop k rest))
+go-suc : (n : ℕ) (t : Tally) (budget : ℕ)
+    → (budget ≡ 0 → ⊥)
+    → (rest : List ℕ)
+    → go n budget t rest
+    ≡ onTaken (takeOne rest) (λ stop. ended t stop) (λ k. go n (budget - 1) (counted t k (onRecord n (t .state) (take k rest) actionRoom)) (drop k rest))
 unfolding go
 go-suc n t zero some rest = absurd (some refl)
 go-suc n t (suc budget) some rest =
@@ -74,6 +78,8 @@ module _ (n : ℕ) (t : Tally) where
     go-stop stop e =
         sym (go-some ∙ ap (λ x. onTaken x (λ s. ended t s) (λ k. go n (budget - 1) (counted t k (onRecord n (t .state) (take k rest) actionRoom)) (drop k rest))) e)
 
-    pub go-step : (k : ℕ) → takeOne rest ≡ Whole k → go n budget t rest ≡ go n (budget - 1) (counted t k (onRecord n (t .state) (take k rest) actionRoom)) (drop k rest)
+    pub go-step : (k : ℕ)
+        → takeOne rest ≡ Whole k
+        → go n budget t rest ≡ go n (budget - 1) (counted t k (onRecord n (t .state) (take k rest) actionRoom)) (drop k rest)
     go-step k e =
         go-some ∙ ap (λ x. onTaken x (λ s. ended t s) (λ k. go n (budget - 1) (counted t k (onRecord n (t .state) (take k rest) actionRoom)) (drop k rest))) e

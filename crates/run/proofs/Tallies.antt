@@ -12,20 +12,21 @@ use lib.Dec.{eqb}
 use lib.ListN.{length, getD, take, drop, length-take, drop-of-length-le}
 use lib.Seq.{drop-cons, getD-take, length-take-le}
 use borrow.Author.Tests.{eq-eqb, ne-eqb}
-use Rattle.record.specs.Refusals.{accepted, outOfRange}
-use Rattle.record.proofs.Tests.{cond-holds}
+use Rattle.wire.specs.Refusals.{accepted, outOfRange}
+use Rattle.wire.proofs.Tests.{cond-holds}
 use Rattle.place.specs.Table.{request, release, incompatible, initiate, terminate, established}
 use Rattle.unit.specs.Steps.{Outcome, refused}
 use Rattle.unit.specs.Forms.{noAction, mostActions}
 use Rattle.unit.specs.declared.state.State.{State}
 use Rattle.unit.specs.declared.answer.Action.{Action}
-use Rattle.run.specs.Runs.{count, totalled, added, Below, Bounded, fresh, counted}
+use Rattle.run.specs.Runs.{totalOf, totalled, fresh, counted}
+use Rattle.run.specs.Counting.{added, Below, Bounded}
 use Rattle.run.specs.declared.Totals.{Totals}
 use Rattle.run.specs.declared.Tally.{Tally}
 
 -- no action adds nothing
 pub totalled-none : (t : Totals) → totalled t [] ≡ t
-unfolding totalled count
+unfolding totalled totalOf
 totalled-none t =
     λ i.
     record {
@@ -43,19 +44,22 @@ one-more false x c = refl
 
 -- the first action is counted, then the others
 totalled-cons : (t : Totals) (a : Action) (acts : List Action) → totalled t (a ∷ acts) ≡ totalled (added t (a .number)) acts
-unfolding totalled added count
+unfolding totalled added totalOf
 totalled-cons t a acts =
     λ i.
     record {
-      request = one-more (eqb (a .number) request) (t .request) (count request acts) i;
-      release = one-more (eqb (a .number) release) (t .release) (count release acts) i;
-      incompatible = one-more (eqb (a .number) incompatible) (t .incompatible) (count incompatible acts) i;
-      initiate = one-more (eqb (a .number) initiate) (t .initiate) (count initiate acts) i;
-      terminate = one-more (eqb (a .number) terminate) (t .terminate) (count terminate acts) i;
-      established = one-more (eqb (a .number) established) (t .established) (count established acts) i;
+      request = one-more (eqb (a .number) request) (t .request) (totalOf request acts) i;
+      release = one-more (eqb (a .number) release) (t .release) (totalOf release acts) i;
+      incompatible = one-more (eqb (a .number) incompatible) (t .incompatible) (totalOf incompatible acts) i;
+      initiate = one-more (eqb (a .number) initiate) (t .initiate) (totalOf initiate acts) i;
+      terminate = one-more (eqb (a .number) terminate) (t .terminate) (totalOf terminate acts) i;
+      established = one-more (eqb (a .number) established) (t .established) (totalOf established acts) i;
     }
 
-pub totalled-next : (t : Totals) (items : List Action) (few i : ℕ) → i < few → few ≤ length items → totalled t (drop i (take few items)) ≡ totalled (added t (getD items i noAction .number)) (drop (i + 1) (take few items))
+pub totalled-next : (t : Totals) (items : List Action) (few i : ℕ)
+    → i < few
+    → few ≤ length items
+    → totalled t (drop i (take few items)) ≡ totalled (added t (getD items i noAction .number)) (drop (i + 1) (take few items))
 totalled-next t items few i below enough =
     ap (totalled t) (drop-cons (take few items) i noAction (omega (arith, length-take-le few items enough)))
     ∙ totalled-cons t (getD (take few items) i noAction) (drop (suc i) (take few items))
@@ -67,7 +71,9 @@ totalled-end t items few i above =
     let all : length (take few items) ≤ few = rw (length-take few items) (min-le-left few (length items)) in
     ap (totalled t) (drop-of-length-le (take few items) {i = i} (omega arith)) ∙ totalled-none t
 
-pub totalled-past : (t : Totals) (items : List Action) (few i : ℕ) → few ≤ i → totalled t (drop i (take few items)) ≡ totalled t (drop (i + 1) (take few items))
+pub totalled-past : (t : Totals) (items : List Action) (few i : ℕ)
+    → few ≤ i
+    → totalled t (drop i (take few items)) ≡ totalled t (drop (i + 1) (take few items))
 totalled-past t items few i above = totalled-end t items few i above ∙ sym (totalled-end t items few (i + 1) (omega arith))
 
 -- what is under a number is under a larger one, and one more action adds at most one
@@ -98,7 +104,9 @@ added-below b t number below =
     }
 
 -- an accepted record
-pub counted-done : (t : Tally) (k : ℕ) (o : Outcome) → o .code ≡ accepted → _≡_ {A = Tally} (record { state = o .state; offset = t .offset + k; read = t .read + 1; refused = t .refused; totals = totalled (t .totals) (o .actions) }) (counted t k o)
+pub counted-done : (t : Tally) (k : ℕ) (o : Outcome)
+    → o .code ≡ accepted
+    → _≡_ {A = Tally} (record { state = o .state; offset = t .offset + k; read = t .read + 1; refused = t .refused; totals = totalled (t .totals) (o .actions) }) (counted t k o)
 unfolding counted
 counted-done t k o done =
     λ i.
@@ -111,7 +119,11 @@ counted-done t k o done =
     }
 
 -- a refused record, whatever its number
-pub counted-kept : (t : Tally) (k : ℕ) (o : Outcome) → (o .code ≡ accepted → ⊥) → o .state ≡ t .state → o .actions ≡ [] → counted t k (refused outOfRange (t .state)) ≡ counted t k o
+pub counted-kept : (t : Tally) (k : ℕ) (o : Outcome)
+    → (o .code ≡ accepted → ⊥)
+    → o .state ≡ t .state
+    → o .actions ≡ []
+    → counted t k (refused outOfRange (t .state)) ≡ counted t k o
 unfolding counted
 counted-kept t k o other state none =
     λ i.
@@ -132,17 +144,17 @@ bounded-fresh s =
       totals = record { request = omega arith; release = omega arith; incompatible = omega arith; initiate = omega arith; terminate = omega arith; established = omega arith };
     }
 
-count-few : (number : ℕ) (acts : List Action) → count number acts ≤ length acts
-unfolding count
+count-few : (number : ℕ) (acts : List Action) → totalOf number acts ≤ length acts
+unfolding totalOf
 count-few number [] = omega arith
 count-few number (a ∷ acts) =
     let rest = count-few number acts in
-    cond-holds (λ c. c ≤ suc (length acts)) (eqb (a .number) number) (suc (count number acts)) (count number acts) (omega arith) (omega arith)
+    cond-holds (λ c. c ≤ suc (length acts)) (eqb (a .number) number) (suc (totalOf number acts)) (totalOf number acts) (omega arith) (omega arith)
 
 totalled-below : (b c : ℕ) (t : Totals) (acts : List Action) → length acts ≤ c → Below b t → Below (b + c) (totalled t acts)
 unfolding totalled
 totalled-below b c t acts few below =
-    let field : (number x : ℕ) → x ≤ b → x + count number acts ≤ b + c = λ number x h. omega (arith, count-few number acts) in
+    let field : (number x : ℕ) → x ≤ b → x + totalOf number acts ≤ b + c = λ number x h. omega (arith, count-few number acts) in
     record {
       request = field request (t .request) (below .request);
       release = field release (t .release) (below .release);
@@ -152,7 +164,11 @@ totalled-below b c t acts few below =
       established = field established (t .established) (below .established);
     }
 
-pub bounded-next : (t : Tally) (k : ℕ) (o : Outcome) → Bounded t → 1 ≤ k → length (o .actions) ≤ mostActions → Bounded (counted t k o)
+pub bounded-next : (t : Tally) (k : ℕ) (o : Outcome)
+    → Bounded t
+    → 1 ≤ k
+    → length (o .actions) ≤ mostActions
+    → Bounded (counted t k o)
 unfolding counted
 bounded-next t k o bounded some few =
     let read = bounded .read in

@@ -1,13 +1,13 @@
 -- Document 01, "Run over a log".
--- Defines: nothingLeft, budgetUsed, recordShort, kindUnknown, longestLog, mostTotal, takeOne, onTaken, steps, count, noTotals,
--- totalled, added, Below, Bounded, fresh, counted, ended, go, runRefused, run, sumOf, runCode, allCodes.
-use Prim.Native.Nat.{ℕ, zero, suc, _+_, _*_, _≤_}
+-- Defines: nothingLeft, budgetUsed, recordShort, kindUnknown, longestLog, takeOne, onTaken, steps, totalOf, noTotals,
+-- totalled, fresh, counted, ended, go, runRefused, run, sumOf, runCode, allCodes.
+use Prim.Native.Nat.{ℕ, zero, suc, _+_}
 use mathlib.Core.Bool.{Bool, true, cond, _&&_, _||_}
 use mathlib.Core.List.{List, [], _∷_}
 use lib.Dec.{eqb, leb}
 use lib.ListN.{length, take, drop}
 use Rattle.record.specs.Records.{known, lengthOf}
-use Rattle.record.specs.Refusals.{accepted, outOfRange, callFromRiu, notSound, logTooLong}
+use Rattle.wire.specs.Refusals.{accepted, outOfRange, callFromRiu, notSound, logTooLong}
 use Rattle.place.specs.Table.{request, release, incompatible, initiate, terminate, established}
 use Rattle.unit.specs.States.{sound}
 use Rattle.unit.specs.Steps.{Outcome}
@@ -37,10 +37,6 @@ kindUnknown = 3
 abbrev pub longestLog : ℕ
 longestLog = 1_048_576
 
--- no total passes four actions for each byte of the longest log
-abbrev pub mostTotal : ℕ
-mostTotal = 4 * longestLog
-
 -- what stands at the front of a log, the budget left aside
 unfoldable pub takeOne : List ℕ → Taken
 takeOne [] = Stopped nothingLeft
@@ -62,9 +58,9 @@ steps n (suc budget) s log =
     (λ k. let o : Outcome = onRecord n s (take k log) actionRoom in o ∷ steps n budget (o .state) (drop k log))
 
 -- how many of the actions have this number
-unfoldable pub count : ℕ → List Action → ℕ
-count number [] = 0
-count number (a ∷ acts) = cond (eqb (a .number) number) (suc (count number acts)) (count number acts)
+unfoldable pub totalOf : ℕ → List Action → ℕ
+totalOf number [] = 0
+totalOf number (a ∷ acts) = cond (eqb (a .number) number) (suc (totalOf number acts)) (totalOf number acts)
 
 abbrev pub noTotals : Totals
 noTotals = record { request = 0; release = 0; incompatible = 0; initiate = 0; terminate = 0; established = 0 }
@@ -73,40 +69,13 @@ noTotals = record { request = 0; release = 0; incompatible = 0; initiate = 0; te
 unfoldable pub totalled : Totals → List Action → Totals
 totalled t acts =
     record {
-      request = t .request + count request acts;
-      release = t .release + count release acts;
-      incompatible = t .incompatible + count incompatible acts;
-      initiate = t .initiate + count initiate acts;
-      terminate = t .terminate + count terminate acts;
-      established = t .established + count established acts;
+      request = t .request + totalOf request acts;
+      release = t .release + totalOf release acts;
+      incompatible = t .incompatible + totalOf incompatible acts;
+      initiate = t .initiate + totalOf initiate acts;
+      terminate = t .terminate + totalOf terminate acts;
+      established = t .established + totalOf established acts;
     }
-
--- the totals with one action of this number
-unfoldable pub added : Totals → ℕ → Totals
-added t number =
-    record {
-      request = cond (eqb number request) (t .request + 1) (t .request);
-      release = cond (eqb number release) (t .release + 1) (t .release);
-      incompatible = cond (eqb number incompatible) (t .incompatible + 1) (t .incompatible);
-      initiate = cond (eqb number initiate) (t .initiate + 1) (t .initiate);
-      terminate = cond (eqb number terminate) (t .terminate + 1) (t .terminate);
-      established = cond (eqb number established) (t .established + 1) (t .established);
-    }
-
--- no total is over a number
-pub record Below (b : ℕ) (t : Totals) : Type 0 where
-  pub request : t .request ≤ b
-  pub release : t .release ≤ b
-  pub incompatible : t .incompatible ≤ b
-  pub initiate : t .initiate ≤ b
-  pub terminate : t .terminate ≤ b
-  pub established : t .established ≤ b
-
--- a run's counts are bounded by the offset reached
-pub record Bounded (t : Tally) : Type 0 where
-  pub read : t .read ≤ t .offset
-  pub refused : t .refused ≤ t .read
-  pub totals : Below (4 * t .read) (t .totals)
 
 -- a run before its first record
 abbrev pub fresh : State → Tally

@@ -3,27 +3,28 @@ ghost use mathlib.Core.Path.{_≡_};
 ghost use Prim.Native.Nat.{_+_, _*_, _≤_, _<_};
 ghost use mathlib.Core.Bool.{true};
 ghost use lib.ListN.{length, take, drop};
-ghost use Rattle.record.specs.Refusals.{outOfRange};
+ghost use Rattle.wire.specs.Refusals.{outOfRange};
 ghost use Rattle.place.specs.Places.{tryLimit};
 ghost use Rattle.unit.specs.States.{sound};
 ghost use Rattle.unit.specs.OnRecords.{actionRoom, onRecord};
 ghost use Rattle.unit.specs.Steps.{refused};
 ghost use Rattle.unit.specs.Forms.{mostActions};
-ghost use Rattle.run.specs.Runs.{longestLog, mostTotal, takeOne, noTotals, added, totalled, Below, Bounded, fresh, counted, go, run};
-use place::turn::ESTABLISHED;
-use place::turn::INCOMPATIBLE;
-use place::turn::INITIATE;
-use place::turn::RELEASE;
-use place::turn::REQUEST;
-use place::turn::TERMINATE;
+ghost use Rattle.run.specs.Runs.{longestLog, takeOne, noTotals, totalled, fresh, counted, go, run};
+ghost use Rattle.run.specs.Counting.{mostTotal, added, Below, Bounded};
+use place::action::ESTABLISHED;
+use place::action::INCOMPATIBLE;
+use place::action::INITIATE;
+use place::action::RELEASE;
+use place::action::REQUEST;
+use place::action::TERMINATE;
 use record::event::Reading;
 use record::read::length_of;
 use record::read::read;
-use record::refusal::ACCEPTED;
-use record::refusal::LOG_TOO_LONG;
-use record::refusal::NOT_SOUND;
 use unit::answer::Actions;
 use unit::state::State;
+use wire::refusal::ACCEPTED;
+use wire::refusal::LOG_TOO_LONG;
+use wire::refusal::NOT_SOUND;
 
 // The stops.
 pub const NOTHING_LEFT: u8 = 0;
@@ -121,7 +122,10 @@ impl Totals {
     // One more action: the one of this number among a step's, if it has so many.
     fn add_at(self, actions: Actions, i: usize) -> Totals
         requires { ⌜ (actions .count ≤ mostActions) × (i < mostActions) × Below (mostTotal + i) self ⌝ }
-        ensures { λ r. ⌜ Below (mostTotal + (i + 1)) r × (totalled self (drop i (take (actions .count) (actions .items))) ≡ totalled r (drop (i + 1) (take (actions .count) (actions .items)))) ⌝ }
+        ensures { λ r.
+            ⌜ Below (mostTotal + (i + 1)) r
+            × (totalled self (drop i (take (actions .count) (actions .items)))
+            ≡ totalled r (drop (i + 1) (take (actions .count) (actions .items)))) ⌝ }
     {
         if i < actions.count {
             let action = actions.items[i];
@@ -189,7 +193,8 @@ impl Tally {
     // The run after one more record.
     fn apply(self, bytes: &[u8]) -> Tally
         requires { ⌜ Bounded self × (self .offset + length (now bytes) ≤ longestLog) × (sound tryLimit (self .state) ≡ true) ⌝ }
-        ensures { λ r. ⌜ r ≡ counted self (length (now (bytes .entry))) (onRecord tryLimit (self .state) (now (bytes .entry)) actionRoom) ⌝ }
+        ensures { λ r.
+            ⌜ r ≡ counted self (length (now (bytes .entry))) (onRecord tryLimit (self .state) (now (bytes .entry)) actionRoom) ⌝ }
     {
         match read(bytes) {
             Reading::Meant(event) => {

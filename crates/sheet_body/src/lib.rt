@@ -1,9 +1,8 @@
 // The program `sheet`: a log from standard input, its sheet to standard output.
 use libc::STDIN_FILENO;
 use libc::STDOUT_FILENO;
-use place::turn::Limits;
+use place::limits::Limits;
 use record::event::Reading;
-use record::read::byte_at;
 use record::read::read;
 use run::Taken;
 use run::run;
@@ -11,56 +10,20 @@ use run::take_one;
 use text::end_into;
 use text::line_into;
 use unit::answer::Answer;
+use unit::start::cold_start;
 use unit::state::State;
-use unit::state::cold_start;
+use wire::byte::byte_at;
 
-// The longest input, the budget of records, and room for the longest line.
+// The longest input, and the budget of records.
 const MOST_BYTES: usize = 4096;
 
 const BUDGET: usize = 4096;
-
-const LINE_ROOM: usize = 192;
 
 // The sheet so far: the state, the offset reached, and the records printed.
 struct Page {
     state: State,
     at: usize,
     number: u32,
-}
-
-// One byte of the input, or its end.
-enum Input {
-    Byte(u8),
-    End,
-}
-
-fn next_byte() -> Input {
-    let mut one = [0u8; 1];
-    let got = libc::read(STDIN_FILENO, &mut one);
-    if got == 1 {
-        Input::Byte(one[0])
-    } else {
-        Input::End
-    }
-}
-
-// Reads until the buffer is full or nothing more comes, however it arrives, and answers how much came.
-fn fill(buffer: &mut [u8]) -> usize {
-    let mut at = 0;
-    loop {
-        if at >= buffer.len() {
-            break at;
-        }
-        match next_byte() {
-            Input::Byte(b) => {
-                buffer[at] = b;
-                at += 1;
-            }
-            Input::End => {
-                break at;
-            }
-        }
-    }
 }
 
 fn write_line(line: &[u8], used: usize) {
@@ -134,7 +97,7 @@ fn print(log: &[u8]) {
 // The whole program.
 pub fn sheet() {
     let mut input = [0u8; 4097];
-    let n = fill(&mut input);
+    let n = io::read_full(STDIN_FILENO, &mut input);
     if n > MOST_BYTES {
         io::write_all(STDOUT_FILENO, b"too long\n");
         return;

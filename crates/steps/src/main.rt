@@ -2,13 +2,13 @@
 // the actions, and then the buffer's bytes as they are.
 use libc::STDIN_FILENO;
 use libc::STDOUT_FILENO;
-use place::turn::Limits;
-use record::refusal::ACCEPTED;
+use place::limits::Limits;
 use run::Taken;
 use run::take_one;
 use std::num::wrapping_add_u64;
+use unit::start::cold_start;
 use unit::state::State;
-use unit::state::cold_start;
+use wire::refusal::ACCEPTED;
 
 // The walk so far: the state, the offset reached, the records read and refused, the actions, and whether a whole record may follow.
 struct Walk {

@@ -10,7 +10,7 @@ use lib.Dec.{ltb}
 use lib.ListN.{length, drop, set, length-set, length-append}
 use lib.Seq.{drop-cons, getD-set-same, drop-set-lt}
 use borrow.Author.Tests.{lt-ltb, le-ltb}
-use Rattle.record.proofs.Tests.{cond-holds}
+use Rattle.wire.proofs.Tests.{cond-holds}
 use Rattle.text.specs.Texts.{digitZero, digits, decimal}
 
 -- a digit stored in front of those that stand already

@@ -9,58 +9,68 @@ use native.Mathlib.Omega.{arith}
 use lib.ListN.{length, getD, take, drop, set, length-append, length-take}
 use lib.Seq.{drop-cons, getD-take, take-suc, set-at, length-take-le}
 use borrow.Author.Tests.{lt-ltb, le-leb, lt-leb}
-use Rattle.record.specs.Blocks.{blocks}
-use Rattle.record.proofs.Padded.{padded-push, padded-take}
+use Rattle.wire.specs.Blocks.{blocks}
+use Rattle.wire.proofs.Padded.{padded-push, padded-take}
 use Rattle.unit.specs.Forms.{noAction}
 use Rattle.unit.specs.declared.answer.Action.{Action}
-use Rattle.text.specs.Texts.{actionText, textRoom, texted, pushed, pushes, placed, placedCount}
+use Rattle.text.specs.Texts.{actionText, placed, placedCount}
+use Rattle.text.specs.Making.{textRoom, texted, withByte, withBytes}
 use Rattle.text.specs.declared.Text.{Text}
 
-pub pushes-append : (t : Text) (xs ys : List ℕ) → pushes t (xs ++ ys) ≡ pushes (pushes t xs) ys
-unfolding pushes
+pub pushes-append : (t : Text) (xs ys : List ℕ) → withBytes t (xs ++ ys) ≡ withBytes (withBytes t xs) ys
+unfolding withBytes
 pushes-append t [] ys = refl
-pushes-append t (x ∷ xs) ys = pushes-append (pushed t x) xs ys
+pushes-append t (x ∷ xs) ys = pushes-append (withByte t x) xs ys
 
 -- parts pushed one after the other are pushed as one
-pub pushes-three : (t : Text) (xs ys zs : List ℕ) → pushes (pushes (pushes t xs) ys) zs ≡ pushes t (xs ++ (ys ++ zs))
-pushes-three t xs ys zs = sym (pushes-append t xs (ys ++ zs) ∙ pushes-append (pushes t xs) ys zs)
+pub pushes-three : (t : Text) (xs ys zs : List ℕ) → withBytes (withBytes (withBytes t xs) ys) zs ≡ withBytes t (xs ++ (ys ++ zs))
+pushes-three t xs ys zs = sym (pushes-append t xs (ys ++ zs) ∙ pushes-append (withBytes t xs) ys zs)
 
 -- so are the parts of a line and its end, and those of the last line
-pub pushes-line : (t : Text) (ws xs ys zs : List ℕ) (b : ℕ) → pushed (pushes (pushes (pushes (pushes t ws) xs) ys) zs) b ≡ pushes t (ws ++ (xs ++ (ys ++ (zs ++ (b ∷ [])))))
-unfolding pushes
+pub pushes-line : (t : Text) (ws xs ys zs : List ℕ) (b : ℕ)
+    → withByte (withBytes (withBytes (withBytes (withBytes t ws) xs) ys) zs) b ≡ withBytes t (ws ++ (xs ++ (ys ++ (zs ++ (b ∷ [])))))
+unfolding withBytes
 pushes-line t ws xs ys zs b =
-    pushes-three (pushes (pushes t ws) xs) ys zs (b ∷ []) ∙ sym (pushes-append t ws (xs ++ (ys ++ (zs ++ (b ∷ [])))) ∙ pushes-append (pushes t ws) xs (ys ++ (zs ++ (b ∷ []))))
+    pushes-three (withBytes (withBytes t ws) xs) ys zs (b ∷ []) ∙ sym (pushes-append t ws (xs ++ (ys ++ (zs ++ (b ∷ [])))) ∙ pushes-append (withBytes t ws) xs (ys ++ (zs ++ (b ∷ []))))
 
-pub pushes-end : (t : Text) (b₁ b₂ b₃ b₄ : ℕ) (xs ys : List ℕ) (b : ℕ) → pushed (pushes (pushes (pushed (pushed (pushed (pushed t b₁) b₂) b₃) b₄) xs) ys) b ≡ pushes t ((b₁ ∷ b₂ ∷ b₃ ∷ b₄ ∷ []) ++ (xs ++ (ys ++ (b ∷ []))))
-unfolding pushes
-pushes-end t b₁ b₂ b₃ b₄ xs ys b = pushes-three (pushes t (b₁ ∷ b₂ ∷ b₃ ∷ b₄ ∷ [])) xs ys (b ∷ [])
+pub pushes-end : (t : Text) (b₁ b₂ b₃ b₄ : ℕ) (xs ys : List ℕ) (b : ℕ)
+    → withByte (withBytes (withBytes (withByte (withByte (withByte (withByte t b₁) b₂) b₃) b₄) xs) ys) b
+    ≡ withBytes t ((b₁ ∷ b₂ ∷ b₃ ∷ b₄ ∷ []) ++ (xs ++ (ys ++ (b ∷ []))))
+unfolding withBytes
+pushes-end t b₁ b₂ b₃ b₄ xs ys b = pushes-three (withBytes t (b₁ ∷ b₂ ∷ b₃ ∷ b₄ ∷ [])) xs ys (b ∷ [])
 
 -- the next byte of a list
-pub pushes-next : (t : Text) (bytes : List ℕ) (i : ℕ) → i < length bytes → pushes t (drop i bytes) ≡ pushes (pushed t (getD bytes i 0)) (drop (i + 1) bytes)
-unfolding pushes
+pub pushes-next : (t : Text) (bytes : List ℕ) (i : ℕ)
+    → i < length bytes
+    → withBytes t (drop i bytes) ≡ withBytes (withByte t (getD bytes i 0)) (drop (i + 1) bytes)
+unfolding withBytes
 pushes-next t bytes i below =
-    ap (pushes t) (drop-cons bytes i 0 below) ∙ ap (λ k. pushes (pushed t (getD bytes i 0)) (drop k bytes)) (sym (add-one i))
+    ap (withBytes t) (drop-cons bytes i 0 below) ∙ ap (λ k. withBytes (withByte t (getD bytes i 0)) (drop k bytes)) (sym (add-one i))
 
 -- the next action of a row
-pub pushes-action : (t : Text) (items : List Action) (few i : ℕ) → i < few → i < length items → pushes t (blocks actionText (drop i (take few items))) ≡ pushes (pushes t (actionText (getD items i noAction))) (blocks actionText (drop (i + 1) (take few items)))
+pub pushes-action : (t : Text) (items : List Action) (few i : ℕ)
+    → i < few
+    → i < length items
+    → withBytes t (blocks actionText (drop i (take few items)))
+    ≡ withBytes (withBytes t (actionText (getD items i noAction))) (blocks actionText (drop (i + 1) (take few items)))
 unfolding blocks
 pushes-action t items few i below there =
     let inside : i < length (take few items) = simp length-take (omega arith) in
-    ap (λ l. pushes t (blocks actionText l)) (drop-cons (take few items) i noAction inside)
+    ap (λ l. withBytes t (blocks actionText l)) (drop-cons (take few items) i noAction inside)
     ∙ pushes-append t (actionText (getD (take few items) i noAction)) (blocks actionText (drop (suc i) (take few items)))
-    ∙ ap₂ (λ a k. pushes (pushes t (actionText a)) (blocks actionText (drop k (take few items)))) (getD-take few items i noAction below) (sym (add-one i))
+    ∙ ap₂ (λ a k. withBytes (withBytes t (actionText a)) (blocks actionText (drop k (take few items)))) (getD-take few items i noAction below) (sym (add-one i))
 
 -- pushed where there is room, a character stands last
-push-texted : (l : List ℕ) (b : ℕ) → length l < textRoom → pushed (texted l) b ≡ texted (l ++ (b ∷ []))
-unfolding pushed texted
+push-texted : (l : List ℕ) (b : ℕ) → length l < textRoom → withByte (texted l) b ≡ texted (l ++ (b ∷ []))
+unfolding withByte texted
 push-texted l b room =
     simp (lt-ltb (length l) textRoom room) (λ i. record { bytes = padded-push 191 0 b l room i; used = sym (length-append l (b ∷ [])) i })
 
-pub pushes-text : (l bs : List ℕ) → length l + length bs ≤ textRoom → pushes (texted l) bs ≡ texted (l ++ bs)
-unfolding pushes
+pub pushes-text : (l bs : List ℕ) → length l + length bs ≤ textRoom → withBytes (texted l) bs ≡ texted (l ++ bs)
+unfolding withBytes
 pushes-text l [] room = ap texted (sym (append-nil l))
 pushes-text l (b ∷ bs) room =
-    ap (λ t. pushes t bs) (push-texted l b (omega arith))
+    ap (λ t. withBytes t bs) (push-texted l b (omega arith))
     ∙ pushes-text (l ++ (b ∷ [])) bs (simp length-append (omega arith))
     ∙ ap texted (append-assoc l (b ∷ []) bs)
 
@@ -83,13 +93,19 @@ module _ (bytes buffer : List ℕ) (used : ℕ) (few : used ≤ length bytes) wh
   size : length (take used bytes) ≡ used
   size = length-take-le used bytes few
 
-  pub placed-none : length buffer < used → (0 ≡ placedCount (take used bytes) (length buffer)) × (buffer ≡ placed (take used bytes) buffer)
+  pub placed-none :
+      length buffer < used
+      → (0 ≡ placedCount (take used bytes) (length buffer)) × (buffer ≡ placed (take used bytes) buffer)
   unfolding placed placedCount
   placed-none small =
       let short : length buffer < length (take used bytes) = omega (arith, size) in
       (simp (lt-leb (length (take used bytes)) (length buffer) short), simp (lt-leb (length (take used bytes)) (length buffer) short))
 
-  pub placed-all : (i : ℕ) (after : List ℕ) → i ≡ used → used ≤ length buffer → after ≡ take i bytes ++ drop i buffer → (used ≡ placedCount (take used bytes) (length buffer)) × (after ≡ placed (take used bytes) buffer)
+  pub placed-all : (i : ℕ) (after : List ℕ)
+      → i ≡ used
+      → used ≤ length buffer
+      → after ≡ take i bytes ++ drop i buffer
+      → (used ≡ placedCount (take used bytes) (length buffer)) × (after ≡ placed (take used bytes) buffer)
   unfolding placed placedCount
   placed-all i after end room copied =
       let fits : length (take used bytes) ≤ length buffer = omega (arith, size) in (
@@ -98,13 +114,17 @@ module _ (bytes buffer : List ℕ) (used : ℕ) (few : used ≤ length bytes) wh
       )
 
 -- the same of a text that was pushed from nothing
-pub placed-text : (t : Text) (text buffer after : List ℕ) (r : ℕ) → t ≡ pushes (texted []) text → length text ≤ textRoom → (r ≡ placedCount (take (t .used) (t .bytes)) (length buffer)) × (after ≡ placed (take (t .used) (t .bytes)) buffer) → (r ≡ placedCount text (length buffer)) × (after ≡ placed text buffer)
+pub placed-text : (t : Text) (text buffer after : List ℕ) (r : ℕ)
+    → t ≡ withBytes (texted []) text
+    → length text ≤ textRoom
+    → (r ≡ placedCount (take (t .used) (t .bytes)) (length buffer)) × (after ≡ placed (take (t .used) (t .bytes)) buffer)
+    → (r ≡ placedCount text (length buffer)) × (after ≡ placed text buffer)
 placed-text t text buffer after r made few placing =
     let is = made ∙ pushes-text [] text (omega arith) in
     let its : take (t .used) (t .bytes) ≡ text = ap (λ x. take (x .used) (x .bytes)) is ∙ texted-take text few in
     (placing .0 ∙ ap (λ l. placedCount l (length buffer)) its, placing .1 ∙ ap (λ l. placed l buffer) its)
 
-pub placed-used : (t : Text) (text : List ℕ) → t ≡ pushes (texted []) text → length text ≤ textRoom → t .used ≤ textRoom
+pub placed-used : (t : Text) (text : List ℕ) → t ≡ withBytes (texted []) text → length text ≤ textRoom → t .used ≤ textRoom
 unfolding texted
 placed-used t text made few =
     let is : t .used ≡ length text = ap (λ x. x .used) (made ∙ pushes-text [] text (omega arith)) in

@@ -4,9 +4,10 @@ use mathlib.Core.List.{List, [], _∷_}
 use Prim.Native.Nat.{ℕ, _*_, _≤_}
 use native.Mathlib.Omega.{arith}
 use lib.ListN.{length, length-append}
-use Rattle.record.specs.Blocks.{blocks}
+use Rattle.wire.specs.Blocks.{blocks}
 use Rattle.unit.specs.declared.answer.Action.{Action}
-use Rattle.text.specs.Texts.{mostDigits, decimal, partnerNumber, actionText, lineText, endText, textRoom}
+use Rattle.text.specs.Texts.{mostDigits, decimal, partnerNumber, actionText, lineText, endText}
+use Rattle.text.specs.Making.{textRoom}
 use Rattle.text.proofs.Numbers.{digits-few}
 
 few : (n : ℕ) → length (decimal n) ≤ mostDigits

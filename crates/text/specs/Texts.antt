@@ -1,15 +1,14 @@
 -- Document 01, "Run over a log", the part on the program `sheet`: the text of a number, of a line and of the end.
 -- Defines: newline, space, slash, digitZero, colon, digits, mostDigits, decimal, partnerNumber, actionText, lineText, endText,
--- textRoom, texted, pushed, pushes, placed, placedCount.
+-- placed, placedCount.
 use Prim.Native.Nat.{ℕ, zero, suc, _+_, _*_, _/_, _%_}
 use mathlib.Core.Bool.{cond}
 use mathlib.Core.List.{List, [], _∷_, _++_}
 use lib.Dec.{ltb, leb}
-use lib.ListN.{length, take, drop, set, replicate}
-use Rattle.record.specs.Blocks.{blocks}
+use lib.ListN.{length, drop}
+use Rattle.wire.specs.Blocks.{blocks}
 use Rattle.record.specs.declared.partner.Partner.{Partner}
 use Rattle.unit.specs.declared.answer.Action.{Action}
-use Rattle.text.specs.declared.Text.{Text}
 
 -- the characters of a sheet
 abbrev pub newline : ℕ
@@ -58,20 +57,6 @@ lineText number kind code acts =
 unfoldable pub endText : ℕ → ℕ → List ℕ
 endText stop read =
     (101 ∷ 110 ∷ 100 ∷ space ∷ []) ++ (decimal stop ++ ((space ∷ decimal read) ++ (newline ∷ [])))
-
--- a text as the code holds it while it is made
-abbrev pub textRoom : ℕ
-textRoom = 192
-
-unfoldable pub texted : List ℕ → Text
-texted l = record { bytes = take textRoom (l ++ replicate textRoom 0); used = length l }
-
-unfoldable pub pushed : Text → ℕ → Text
-pushed t b = cond (ltb (t .used) textRoom) (record { bytes = set (t .bytes) (t .used) b; used = t .used + 1 }) t
-
-unfoldable pub pushes : Text → List ℕ → Text
-pushes t [] = t
-pushes t (b ∷ bs) = pushes (pushed t b) bs
 
 -- a text put to the front of a lent buffer, where it has room; later bytes stay
 unfoldable pub placed : List ℕ → List ℕ → List ℕ

@@ -3,12 +3,14 @@ ghost use mathlib.Core.Path.{_≡_};
 ghost use Prim.Native.Nat.{_≤_, _<_};
 ghost use mathlib.Core.List.{[], _∷_};
 ghost use lib.ListN.{length, take, drop};
-ghost use Rattle.record.specs.Blocks.{blocks};
-ghost use Rattle.text.specs.Texts.{decimal, partnerNumber, actionText, lineText, endText, texted, pushed, pushes, placed, placedCount};
-use record::number::word;
+ghost use Rattle.wire.specs.Blocks.{blocks};
+ghost use Rattle.text.specs.Texts.{decimal, partnerNumber, actionText, lineText, endText, placed, placedCount};
+ghost use Rattle.text.specs.Making.{texted, withByte, withBytes};
 use record::partner::Partner;
 use unit::answer::Action;
 use unit::answer::Actions;
+use unit::answer::MOST_ACTIONS;
+use wire::byte::word;
 
 // A text that is being made; the bytes from `used` on are zeros.
 pub struct Text {
@@ -25,8 +27,6 @@ struct Digits {
 const TEXT_ROOM: usize = 192;
 
 const MOST_DIGITS: usize = 10;
-
-const MOST_ACTIONS: usize = 4;
 
 const NEWLINE: u8 = 10;
 
@@ -76,7 +76,7 @@ impl Text {
 
     // One more character; none where there is no room.
     fn push(self, b: u8) -> Text
-        ensures { λ r. ⌜ r ≡ pushed self b ⌝ }
+        ensures { λ r. ⌜ r ≡ withByte self b ⌝ }
     {
         let at = self.used;
         if at < TEXT_ROOM {
@@ -91,7 +91,7 @@ impl Text {
 
     // A number in decimal.
     fn number(self, n: u32) -> Text
-        ensures { λ r. ⌜ r ≡ pushes self (decimal n) ⌝ }
+        ensures { λ r. ⌜ r ≡ withBytes self (decimal n) ⌝ }
     {
         let digits = digits_of(n);
         let mut text = self;
@@ -106,14 +106,14 @@ impl Text {
 
     // A character and then a number.
     fn field(self, before: u8, n: u32) -> Text
-        ensures { λ r. ⌜ r ≡ pushes self (before ∷ decimal n) ⌝ }
+        ensures { λ r. ⌜ r ≡ withBytes self (before ∷ decimal n) ⌝ }
     {
         self.push(before).number(n)
     }
 
     // An action as number:type/partner, after a space.
     fn action(self, action: Action) -> Text
-        ensures { λ r. ⌜ r ≡ pushes self (actionText action) ⌝ }
+        ensures { λ r. ⌜ r ≡ withBytes self (actionText action) ⌝ }
     {
         let partner = action.partner;
         let sent = self.field(SPACE, word(action.number));
@@ -123,7 +123,7 @@ impl Text {
 
     // The actions of a record, one after the other.
     fn actions(self, actions: Actions) -> Text
-        ensures { λ r. ⌜ r ≡ pushes self (blocks actionText (take (actions .count) (actions .items))) ⌝ }
+        ensures { λ r. ⌜ r ≡ withBytes self (blocks actionText (take (actions .count) (actions .items))) ⌝ }
     {
         let count = actions.count;
         let mut text = self;
@@ -144,7 +144,10 @@ impl Text {
     // Puts the text to the front of a buffer that has room for it, and answers its length; else 0, and nothing is written.
     fn place(self, buffer: &mut [u8]) -> usize
         requires { ⌜ self .used ≤ 192 ⌝ }
-        ensures { λ r. ⌜ (r ≡ placedCount (take (self .used) (self .bytes)) (length (now (buffer .entry)))) × (now (buffer .exit) ≡ placed (take (self .used) (self .bytes)) (now (buffer .entry))) ⌝ }
+        ensures { λ r.
+            ⌜ (r ≡ placedCount (take (self .used) (self .bytes)) (length (now (buffer .entry))))
+            × (now (buffer .exit)
+            ≡ placed (take (self .used) (self .bytes)) (now (buffer .entry))) ⌝ }
     {
         let used = self.used;
         if buffer.len() < used {
@@ -159,16 +162,8 @@ impl Text {
     }
 }
 
-// Puts a number in decimal to the front of a buffer and answers how many digits it has; 0 and nothing written where there is no room.
-pub fn decimal_into(buffer: &mut [u8], n: u32) -> usize
-    ensures { λ r. ⌜ (r ≡ placedCount (decimal n) (length (now (buffer .entry)))) × (now (buffer .exit) ≡ placed (decimal n) (now (buffer .entry))) ⌝ }
-{
-    let text = Text::empty().number(n);
-    text.place(buffer)
-}
-
 fn line(number: u32, kind: u8, code: u8, actions: Actions) -> Text
-    ensures { λ r. ⌜ r ≡ pushes (texted []) (lineText number kind code (take (actions .count) (actions .items))) ⌝ }
+    ensures { λ r. ⌜ r ≡ withBytes (texted []) (lineText number kind code (take (actions .count) (actions .items))) ⌝ }
 {
     let numbered = Text::empty().number(number);
     let told = numbered.field(SPACE, word(kind)).field(SPACE, word(code));
@@ -177,14 +172,17 @@ fn line(number: u32, kind: u8, code: u8, actions: Actions) -> Text
 
 // Puts the line of a record to the front of a buffer and answers its length; 0 and nothing written where there is no room.
 pub fn line_into(buffer: &mut [u8], number: u32, kind: u8, code: u8, actions: Actions) -> usize
-    ensures { λ r. ⌜ (r ≡ placedCount (lineText number kind code (take (actions .count) (actions .items))) (length (now (buffer .entry)))) × (now (buffer .exit) ≡ placed (lineText number kind code (take (actions .count) (actions .items))) (now (buffer .entry))) ⌝ }
+    ensures { λ r.
+        ⌜ (r ≡ placedCount (lineText number kind code (take (actions .count) (actions .items))) (length (now (buffer .entry))))
+        × (now (buffer .exit)
+        ≡ placed (lineText number kind code (take (actions .count) (actions .items))) (now (buffer .entry))) ⌝ }
 {
     let text = line(number, kind, code, actions);
     text.place(buffer)
 }
 
 fn end(stop: u8, read: u32) -> Text
-    ensures { λ r. ⌜ r ≡ pushes (texted []) (endText stop read) ⌝ }
+    ensures { λ r. ⌜ r ≡ withBytes (texted []) (endText stop read) ⌝ }
 {
     let begun = Text::empty().push(b'e').push(b'n').push(b'd').push(SPACE);
     begun.number(word(stop)).field(SPACE, read).push(NEWLINE)
@@ -192,7 +190,10 @@ fn end(stop: u8, read: u32) -> Text
 
 // Puts the last line to the front of a buffer and answers its length; 0 and nothing written where there is no room.
 pub fn end_into(buffer: &mut [u8], stop: u8, read: u32) -> usize
-    ensures { λ r. ⌜ (r ≡ placedCount (endText stop read) (length (now (buffer .entry)))) × (now (buffer .exit) ≡ placed (endText stop read) (now (buffer .entry))) ⌝ }
+    ensures { λ r.
+        ⌜ (r ≡ placedCount (endText stop read) (length (now (buffer .entry))))
+        × (now (buffer .exit)
+        ≡ placed (endText stop read) (now (buffer .entry))) ⌝ }
 {
     let text = end(stop, read);
     text.place(buffer)

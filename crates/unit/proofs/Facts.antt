@@ -1,6 +1,6 @@
 -- Soundness as facts. That of the places is an account: no place is bad, and no partner weighs more than one.
 -- Defines: bad, PlacesFacts, Facts.
--- Proves: places-facts, facts-places, sound-facts, facts-sound, set-facts, take-facts, shut-here, shut-facts, place-at.
+-- Proves: places-facts, facts-places, sound-facts, facts-sound, set-facts, take-facts, closed-here, closedBy-facts, place-at.
 use mathlib.Core.Path.{_≡_, refl, ap, _∙_}
 use mathlib.Core.Bool.{Bool, true, false, cond, _&&_}
 use mathlib.Core.List.{List, [], _∷_}
@@ -11,20 +11,23 @@ use lib.ListN.{length, getD, set}
 use borrow.Author.Tests.{leb-true, le-leb, eqb-true, eq-eqb}
 use Rattle.record.specs.Partners.{samePartner}
 use Rattle.record.specs.declared.partner.Partner.{Partner}
-use Rattle.record.proofs.Tests.{and-left, and-right, and-both, cond-case, cond-holds, same-refl, same-eq}
-use Rattle.place.specs.Places.{vacant, seat, holds, holdsIn, placeOk}
-use Rattle.place.specs.Table.{placeAfter, shutTurn}
+use Rattle.wire.proofs.Tests.{and-left, and-right, and-both, cond-case, cond-holds}
+use Rattle.record.proofs.Partners.{same-refl, same-eq}
+use Rattle.place.specs.Places.{vacant, seat, holds, placeOk}
+use Rattle.place.proofs.Holdings.{holdsIn}
+use Rattle.place.specs.Table.{placeAfter, closedBy}
 use Rattle.place.specs.declared.phase.Phase.{Phase}
-use Rattle.place.specs.declared.seat.Direction.{Direction}
-use Rattle.place.specs.declared.seat.Holding.{Holding}
-use Rattle.place.specs.declared.seat.Holding.the-variants.{Free, Held}
-use Rattle.place.specs.declared.seat.Place.{Place}
-use Rattle.place.specs.declared.turn.Due.{Due}
-use Rattle.place.proofs.Turns.{shut-sound, after-holds}
+use Rattle.place.specs.declared.place.Direction.{Direction}
+use Rattle.place.specs.declared.place.Holding.{Holding}
+use Rattle.place.specs.declared.place.Holding.the-variants.{Free, Held}
+use Rattle.place.specs.declared.place.Place.{Place}
+use Rattle.place.specs.declared.turn.Closing.{Closing}
+use Rattle.place.proofs.Turns.{closedBy-sound, after-holds}
 use Rattle.unit.specs.States.{placeCount, first, limitsOk, trainOk, marksOk, absentFrom, placesOk, sound}
-use Rattle.unit.specs.Steps.{shut}
+use Rattle.unit.specs.Steps.{closed}
 use Rattle.unit.specs.declared.state.State.{State}
-use Rattle.unit.proofs.Weights.{weigh, once, here, weigh-set, weigh-shut, weigh-at}
+use Rattle.unit.proofs.Weights.{weigh-set, weigh-closed, weigh-at}
+use Rattle.unit.specs.Kept.{here, once, weigh}
 use Rattle.unit.proofs.Searches.{first-none, none-first}
 
 -- 1 where a test fails
@@ -60,7 +63,10 @@ here-less a true h =
     omega arith
 
 -- a partner that is absent from the places above takes its own place alone
-alone : (q : Partner) (k : Holding) (ps : List Place) → absentFrom ps k ≡ true → weigh (here (holds q)) ps ≤ 1 → once (holdsIn q k) + weigh (here (holds q)) ps ≤ 1
+alone : (q : Partner) (k : Holding) (ps : List Place)
+    → absentFrom ps k ≡ true
+    → weigh (here (holds q)) ps ≤ 1
+    → once (holdsIn q k) + weigh (here (holds q)) ps ≤ 1
 alone q Free ps absent rest = omega arith
 alone q (Held d ph r) ps absent rest =
     cond-case (λ w. w + weigh (here (holds q)) ps ≤ 1) (samePartner q r) 1 0
@@ -71,7 +77,9 @@ alone q (Held d ph r) ps absent rest =
     (λ other. omega arith)
 
 -- and one that weighs no more than one is absent from those above
-lone : (k : Holding) (ps : List Place) → ((q : Partner) → once (holdsIn q k) + weigh (here (holds q)) ps ≤ 1) → absentFrom ps k ≡ true
+lone : (k : Holding) (ps : List Place)
+    → ((q : Partner) → once (holdsIn q k) + weigh (here (holds q)) ps ≤ 1)
+    → absentFrom ps k ≡ true
 lone Free ps one = refl
 lone (Held d ph r) ps one =
     let itself : once (samePartner r r) ≡ 1 = ap once (same-refl r) in
@@ -139,7 +147,12 @@ facts-sound n s f =
     (facts-places n (s .places) (f .places)))))
 
 -- a store of a sound place that holds no other partner than the old one keeps the facts
-pub set-facts : (n : ℕ) (ps : List Place) (i : ℕ) (x : Place) → PlacesFacts n ps → i < length ps → placeOk n x ≡ true → ((q : Partner) → holds q x ≡ true → holds q (getD ps i vacant) ≡ true) → PlacesFacts n (set ps i x)
+pub set-facts : (n : ℕ) (ps : List Place) (i : ℕ) (x : Place)
+    → PlacesFacts n ps
+    → i < length ps
+    → placeOk n x ≡ true
+    → ((q : Partner) → holds q x ≡ true → holds q (getD ps i vacant) ≡ true)
+    → PlacesFacts n (set ps i x)
 set-facts n ps i x facts below good same =
     let none = facts .0 in
     let account = weigh-set (bad n) ps i x below in
@@ -153,7 +166,12 @@ set-facts n ps i x facts below good same =
     )
 
 -- so does the store of a partner that has no place
-pub take-facts : (n : ℕ) (ps : List Place) (i : ℕ) (d : Direction) (ph : Phase) (p : Partner) → PlacesFacts n ps → i < length ps → placeOk n (seat d ph p) ≡ true → weigh (here (holds p)) ps ≡ 0 → PlacesFacts n (set ps i (seat d ph p))
+pub take-facts : (n : ℕ) (ps : List Place) (i : ℕ) (d : Direction) (ph : Phase) (p : Partner)
+    → PlacesFacts n ps
+    → i < length ps
+    → placeOk n (seat d ph p) ≡ true
+    → weigh (here (holds p)) ps ≡ 0
+    → PlacesFacts n (set ps i (seat d ph p))
 take-facts n ps i d ph p facts below good absent =
     let none = facts .0 in
     let account = weigh-set (bad n) ps i (seat d ph p) below in
@@ -171,22 +189,23 @@ take-facts n ps i d ph p facts below good absent =
     )
 
 -- a closing gives no partner a place
-pub shut-here : (which : Due) (ps : List Place) (q : Partner) → weigh (here (holds q)) (shut which ps) ≤ weigh (here (holds q)) ps
-shut-here which ps q =
-    weigh-shut (here (holds q)) which ps
-    (λ p. here-less (holds q p) (holds q (placeAfter p (shutTurn which p))) (after-holds q p (shutTurn which p)))
+pub closed-here : (which : Closing) (ps : List Place) (q : Partner)
+    → weigh (here (holds q)) (closed which ps) ≤ weigh (here (holds q)) ps
+closed-here which ps q =
+    weigh-closed (here (holds q)) which ps
+    (λ p. here-less (holds q p) (holds q (placeAfter p (closedBy which p))) (after-holds q p (closedBy which p)))
 
 -- and keeps the facts
-pub shut-facts : (n : ℕ) → 1 ≤ n → (which : Due) (ps : List Place) → PlacesFacts n ps → PlacesFacts n (shut which ps)
-shut-facts n some-try which ps facts =
+pub closedBy-facts : (n : ℕ) → 1 ≤ n → (which : Closing) (ps : List Place) → PlacesFacts n ps → PlacesFacts n (closed which ps)
+closedBy-facts n some-try which ps facts =
     let none = facts .0 in
     let account =
-    weigh-shut (bad n) which ps
-    (λ p. fails-less (placeOk n p) (placeOk n (placeAfter p (shutTurn which p))) (shut-sound n some-try which (p .holding))) in (
+    weigh-closed (bad n) which ps
+    (λ p. fails-less (placeOk n p) (placeOk n (placeAfter p (closedBy which p))) (closedBy-sound n some-try which (p .holding))) in (
       omega arith,
       λ q.
           let one = facts .1 q in
-          let less = shut-here which ps q in
+          let less = closed-here which ps q in
           omega arith,
     )
 

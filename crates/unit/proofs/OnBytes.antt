@@ -6,9 +6,9 @@ use mathlib.Core.List.{List}
 use Prim.Native.Nat.{ℕ, _≤_, _<_}
 use lib.ListN.{length, take}
 use borrow.Author.Tests.{le-leb, lt-leb}
-use Rattle.record.specs.Blocks.{blocks}
+use Rattle.wire.specs.Blocks.{blocks}
 use Rattle.record.specs.Records.{reading}
-use Rattle.record.specs.Refusals.{noRoom, notSound}
+use Rattle.wire.specs.Refusals.{noRoom, notSound}
 use Rattle.record.specs.declared.event.Reading.{Reading}
 use Rattle.unit.specs.States.{sound}
 use Rattle.unit.specs.Steps.{Outcome, refused}
@@ -38,16 +38,26 @@ abbrev Pair : Stepped → List ℕ → Outcome → List ℕ → Type 0
 Pair r after o buffer = (r ≡ stepped o) × (after ≡ written (o .actions) buffer)
 
 -- a refusal: the state as given, no action, the buffer as it was
-pub refused-pair : (o : Outcome) (r : ℕ) (s : State) (buffer : List ℕ) → o ≡ refused r s → Pair (record { code = r; state = s; count = 0 }) buffer o buffer
+pub refused-pair : (o : Outcome) (r : ℕ) (s : State) (buffer : List ℕ)
+    → o ≡ refused r s
+    → Pair (record { code = r; state = s; count = 0 }) buffer o buffer
 unfolding stepped written blocks
 refused-pair o r s buffer e = subst (λ x. Pair (record { code = r; state = s; count = 0 }) buffer x buffer) (sym e) (refl, refl)
 
 -- the answer of the step on values, unpacked
-pub answered-few : (o : Outcome) (a : Answer) → a ≡ packed o → length (o .actions) ≤ mostActions → a .actions .count ≤ mostActions
+pub answered-few : (o : Outcome) (a : Answer)
+    → a ≡ packed o
+    → length (o .actions) ≤ mostActions
+    → a .actions .count ≤ mostActions
 unfolding packed listed
 answered-few o a e few = subst (λ x. x .actions .count ≤ mostActions) (sym e) few
 
-pub answered-pair : (o t : Outcome) (a : Answer) (buffer after : List ℕ) → o ≡ t → a ≡ packed t → length (t .actions) ≤ mostActions → after ≡ written (take (a .actions .count) (a .actions .items)) buffer → Pair (record { code = a .code; state = a .state; count = a .actions .count }) after o buffer
+pub answered-pair : (o t : Outcome) (a : Answer) (buffer after : List ℕ)
+    → o ≡ t
+    → a ≡ packed t
+    → length (t .actions) ≤ mostActions
+    → after ≡ written (take (a .actions .count) (a .actions .items)) buffer
+    → Pair (record { code = a .code; state = a .state; count = a .actions .count }) after o buffer
 unfolding packed listed stepped
 answered-pair o t a buffer after same e few wrote =
     subst (λ x. Pair (record { code = a .code; state = a .state; count = a .actions .count }) after x buffer) (sym same) (

@@ -10,59 +10,78 @@ use lib.ListN.{length, length-append}
 use borrow.Author.Tests.{lt-ltb}
 use Rattle.record.specs.Partners.{isRbc}
 use Rattle.record.specs.Records.{missionEnded}
-use Rattle.record.specs.Refusals as refusal
+use Rattle.wire.specs.Refusals as refusal
 use Rattle.record.specs.declared.partner.Partner.{Partner}
 use Rattle.record.specs.declared.event.Cause.{Cause}
 use Rattle.record.specs.declared.event.PartnerEvent.{PartnerEvent}
 use Rattle.record.specs.declared.event.Event.the-variants.{Mission, Hole, Order, Call, Named}
-use Rattle.record.proofs.Padded.{padded-push}
+use Rattle.wire.proofs.Padded.{padded-push}
 use Rattle.place.specs.Table.{takes}
 use Rattle.place.specs.declared.turn.Turn.{Turn}
-use Rattle.place.specs.declared.turn.Due.the-variants.{Every}
+use Rattle.place.specs.declared.turn.Closing.the-variants.{Every}
 use Rattle.unit.specs.States.{seek}
-use Rattle.unit.specs.Steps.{refused, done, act, withMarks, withMission, markHole, holeTaken, inForce, sweep, orderedAt, calledAt, turnedAt, turned, namedAt, step}
+use Rattle.unit.specs.Steps.{refused, done, act, withMarks, withMission, markHole, holeTaken, inForce, closePlaces, orderedAt, calledAt, turnedAt, turned, namedAt, step}
 use Rattle.unit.specs.Forms.{mostActions, noAction, listed, pushed, pushAll, packed}
 use Rattle.unit.specs.declared.state.State.{State}
-use Rattle.unit.specs.declared.state.Found.{Found}
+use Rattle.unit.specs.declared.search.Found.{Found}
 use Rattle.unit.specs.declared.answer.Action.{Action}
 use Rattle.unit.specs.declared.answer.Actions.{Actions}
 use Rattle.unit.specs.declared.answer.Answer.{Answer}
 
 -- an accepted step, its state and its actions made by the code
-pub packed-done : (s t : State) (a : Actions) (acts : List Action) → s ≡ t → a ≡ listed acts → _≡_ {A = Answer} (record { code = refusal.accepted; state = s; actions = a }) (packed (done t acts))
+pub packed-done : (s t : State) (a : Actions) (acts : List Action)
+    → s ≡ t
+    → a ≡ listed acts
+    → _≡_ {A = Answer} (record { code = refusal.accepted; state = s; actions = a }) (packed (done t acts))
 unfolding packed
 packed-done s t a acts state actions = λ i. record { code = refusal.accepted; state = state i; actions = actions i }
 
 module _ (n : ℕ) (s : State) where
-  pub hole-is : (entered b : Bool) → holeTaken (s .marks) entered ≡ b → step n s (Hole entered) ≡ cond b (done (withMarks s (markHole (s .marks) entered)) []) (refused refusal.notTaken s)
+  pub hole-is : (entered b : Bool)
+      → holeTaken (s .marks) entered ≡ b
+      → step n s (Hole entered) ≡ cond b (done (withMarks s (markHole (s .marks) entered)) []) (refused refusal.notTaken s)
   unfolding step
   hole-is entered b test =
       ap (λ t. cond t (done (withMarks s (markHole (s .marks) entered)) []) (refused refusal.notTaken s)) test
 
-  pub mission-is : (mission : ℕ) (b : Bool) → eqb mission missionEnded ≡ b → step n s (Mission mission) ≡ cond b (sweep Every (withMission s mission)) (done (withMission s mission) [])
+  pub mission-is : (mission : ℕ) (b : Bool)
+      → eqb mission missionEnded ≡ b
+      → step n s (Mission mission) ≡ cond b (closePlaces Every (withMission s mission)) (done (withMission s mission) [])
   unfolding step
   mission-is mission b test =
-      ap (λ t. cond t (sweep Every (withMission s mission)) (done (withMission s mission) [])) test
+      ap (λ t. cond t (closePlaces Every (withMission s mission)) (done (withMission s mission) [])) test
 
-  pub order-is : (p : Partner) (accepting : Bool) (cause : Cause) (b : Bool) (found : Found) → inForce cause (s .train) (s .marks) ≡ b → seek p (s .places) ≡ found → step n s (Order p accepting cause) ≡ cond b (orderedAt s p accepting cause found) (refused refusal.notInForce s)
+  pub order-is : (p : Partner) (accepting : Bool) (cause : Cause) (b : Bool) (found : Found)
+      → inForce cause (s .train) (s .marks) ≡ b
+      → seek p (s .places) ≡ found
+      → step n s (Order p accepting cause) ≡ cond b (orderedAt s p accepting cause found) (refused refusal.notInForce s)
   unfolding step
   order-is p accepting cause b found test search =
       ap₂ (λ t f. cond t (orderedAt s p accepting cause f) (refused refusal.notInForce s)) test search
 
-  pub call-is : (p : Partner) (b : Bool) (found : Found) → isRbc p ≡ b → seek p (s .places) ≡ found → step n s (Call p) ≡ cond b (calledAt s p found) (refused refusal.callFromRiu s)
+  pub call-is : (p : Partner) (b : Bool) (found : Found)
+      → isRbc p ≡ b
+      → seek p (s .places) ≡ found
+      → step n s (Call p) ≡ cond b (calledAt s p found) (refused refusal.callFromRiu s)
   unfolding step
   call-is p b found test search =
       ap₂ (λ t f. cond t (calledAt s p f) (refused refusal.callFromRiu s)) test search
 
-  pub named-is : (p : Partner) (e : PartnerEvent) (found : Found) → seek p (s .places) ≡ found → step n s (Named p e) ≡ namedAt n s p e found
+  pub named-is : (p : Partner) (e : PartnerEvent) (found : Found)
+      → seek p (s .places) ≡ found
+      → step n s (Named p e) ≡ namedAt n s p e found
   unfolding step
   named-is p e found search = ap (namedAt n s p e) search
 
-  pub turned-is : (i : ℕ) (p : Partner) (t : Turn) (b : Bool) → takes t ≡ b → turned s i p t ≡ cond b (turnedAt s i p t) (refused refusal.notTaken s)
+  pub turned-is : (i : ℕ) (p : Partner) (t : Turn) (b : Bool)
+      → takes t ≡ b
+      → turned s i p t ≡ cond b (turnedAt s i p t) (refused refusal.notTaken s)
   turned-is i p t b test = ap (λ u. cond u (turnedAt s i p t) (refused refusal.notTaken s)) test
 
 -- an action pushed where there is room stands last in the list
-pub push-listed : (acts : List Action) (p : Partner) (number : ℕ) → length acts < mostActions → pushed (listed acts) p number ≡ listed (acts ++ (act p number ∷ []))
+pub push-listed : (acts : List Action) (p : Partner) (number : ℕ)
+    → length acts < mostActions
+    → pushed (listed acts) p number ≡ listed (acts ++ (act p number ∷ []))
 unfolding pushed listed
 push-listed acts p number room =
     simp (lt-ltb (length acts) mostActions room)
@@ -73,7 +92,9 @@ push-listed acts p number room =
     })
 
 -- so do the actions of one partner
-pub send-listed : (acts : List Action) (p : Partner) (ks : List ℕ) → length acts + length ks ≤ mostActions → pushAll (listed acts) p ks ≡ listed (acts ++ map (act p) ks)
+pub send-listed : (acts : List Action) (p : Partner) (ks : List ℕ)
+    → length acts + length ks ≤ mostActions
+    → pushAll (listed acts) p ks ≡ listed (acts ++ map (act p) ks)
 unfolding pushAll
 send-listed acts p [] room = ap listed (sym (append-nil acts))
 send-listed acts p (k ∷ ks) room =

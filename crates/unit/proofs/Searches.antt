@@ -1,11 +1,11 @@
 -- What a search finds, for any test and any number of places.
 -- Defines: FoundOk, SearchedTo.
--- Proves: first-passes, first-none, none-first, seek-ok, found-ok, searched-more, searched-found, searched-none, seek-at,
--- seek-vacant, seek-full.
+-- Proves: first-passes, first-lowest, first-none, none-first, seek-ok, found-ok, seek-lowest, searched-more, searched-found,
+-- searched-none, seek-at, seek-vacant, seek-full.
 use mathlib.Core.Path.{_≡_, refl, ap, subst, _∙_}
 use mathlib.Core.Bool.{Bool, true, false, cond}
 use mathlib.Core.List.{List, [], _∷_}
-use Prim.Native.Nat.{ℕ, suc, _+_, _≤_, _<_}
+use Prim.Native.Nat.{ℕ, zero, suc, _+_, _≤_, _<_}
 use native.Mathlib.Nat.{le-of-suc-le-suc}
 use native.Mathlib.Omega.{arith}
 use native.Mathlib.Numerals.{add-one}
@@ -14,22 +14,37 @@ use lib.ListN.{length, getD, drop, drop-of-length-le}
 use lib.Seq.{drop-cons}
 use borrow.Author.Tests.{ltb-true, ltb-false, lt-ltb, le-ltb}
 use Rattle.record.specs.declared.partner.Partner.{Partner}
-use Rattle.record.proofs.Tests.{cond-case}
+use Rattle.wire.proofs.Tests.{cond-case}
 use Rattle.place.specs.Places.{vacant, isFree, holds}
-use Rattle.place.specs.declared.seat.Place.{Place}
+use Rattle.place.specs.declared.place.Place.{Place}
 use Rattle.unit.specs.States.{first, seek}
-use Rattle.unit.specs.declared.state.Found.{Found}
-use Rattle.unit.specs.declared.state.Found.the-variants.{At, Vacant, Full}
-use Rattle.unit.proofs.Weights.{weigh, once, here}
+use Rattle.unit.specs.declared.search.Found.{Found}
+use Rattle.unit.specs.declared.search.Found.the-variants.{At, Vacant, Full}
+use Rattle.unit.specs.Kept.{here, once, weigh}
 
 -- the place found passes
-pub first-passes : (test : Place → Bool) (ps : List Place) → first test ps < length ps → test (getD ps (first test ps) vacant) ≡ true
+pub first-passes : (test : Place → Bool) (ps : List Place)
+    → first test ps < length ps
+    → test (getD ps (first test ps) vacant) ≡ true
 unfolding first
 first-passes test [] = λ h. absurd (omega arith)
 first-passes test (p ∷ ps) =
     cond-case (λ k. k < suc (length ps) → test (getD (p ∷ ps) k vacant) ≡ true) (test p) 0 (suc (first test ps))
     (λ passes h. passes)
     (λ fails h. first-passes test ps (le-of-suc-le-suc h))
+
+-- and none before it does
+pub first-lowest : (test : Place → Bool) (ps : List Place) (i : ℕ) → i < first test ps → test (getD ps i vacant) ≡ false
+unfolding first
+first-lowest test [] i = λ below. absurd (omega arith)
+first-lowest test (p ∷ ps) zero =
+    cond-case (λ k. 0 < k → test p ≡ false) (test p) 0 (suc (first test ps))
+    (λ passes below. absurd (omega arith))
+    (λ fails below. fails)
+first-lowest test (p ∷ ps) (suc i) =
+    cond-case (λ k. suc i < k → test (getD ps i vacant) ≡ false) (test p) 0 (suc (first test ps))
+    (λ passes below. absurd (omega arith))
+    (λ fails below. first-lowest test ps i (le-of-suc-le-suc below))
 
 -- where none is found, none passes
 pub first-none : (test : Place → Bool) (ps : List Place) → length ps ≤ first test ps → weigh (here test) ps ≡ 0
@@ -83,11 +98,28 @@ seek-ok p ps =
 pub found-ok : (p : Partner) (ps : List Place) (found : Found) → seek p ps ≡ found → FoundOk p ps found
 found-ok p ps found e = subst (FoundOk p ps) e (seek-ok p ps)
 
+-- a free place found is the lowest
+pub seek-lowest : (p : Partner) (ps : List Place) (i j : ℕ)
+    → seek p ps ≡ Vacant i
+    → j < i
+    → isFree (getD ps j vacant) ≡ false
+unfolding seek
+seek-lowest p ps i j is below = first-lowest isFree ps j (by (ltb (first (holds p) ps) (length ps)) (ltb (first isFree ps) (length ps)) is)
+  where
+    by : (a b : Bool) → cond a (At (first (holds p) ps)) (cond b (Vacant (first isFree ps)) Full) ≡ Vacant i → j < first isFree ps
+    by true b is = absurd (let z : _≡_ {A = ℕ} 0 1 = cc in omega arith)
+    by false true is =
+        let same : first isFree ps ≡ i = cc in
+        omega arith
+    by false false is = absurd (let z : _≡_ {A = ℕ} 0 1 = cc in omega arith)
+
 -- a search that has passed the places from one number up to another without finding any
 abbrev pub SearchedTo : (Place → Bool) → List Place → ℕ → ℕ → Type 0
 SearchedTo test ps from i = from + first test (drop from ps) ≡ i + first test (drop i ps)
 
-first-drop : (test : Place → Bool) (ps : List Place) (i : ℕ) → i < length ps → first test (drop i ps) ≡ cond (test (getD ps i vacant)) 0 (suc (first test (drop (suc i) ps)))
+first-drop : (test : Place → Bool) (ps : List Place) (i : ℕ)
+    → i < length ps
+    → first test (drop i ps) ≡ cond (test (getD ps i vacant)) 0 (suc (first test (drop (suc i) ps)))
 unfolding first
 first-drop test ps i below = rw (drop-cons ps i vacant below)
 

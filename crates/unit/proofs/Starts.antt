@@ -1,13 +1,16 @@
--- The cold start by what the test of its limits showed.
--- Proves: started-by.
-use mathlib.Core.Path.{_≡_, sym, ap, _∙_}
+-- The cold start by what the test of its limits showed, and what it gives.
+-- Proves: started-by, cold-sound, cold-vacant.
+use mathlib.Core.Path.{_≡_, refl, sym, ap, _∙_}
 use mathlib.Core.Bool.{Bool, true, false, cond}
-use Prim.Native.Nat.{ℕ}
-use Rattle.record.specs.Refusals.{accepted, badLimits}
-use Rattle.place.specs.declared.turn.Limits.{Limits}
-use Rattle.unit.specs.States.{limitsOk, noLimits, cold, coldStart}
+use Prim.Native.Nat.{ℕ, zero, suc}
+use lib.ListN.{getD, replicate}
+use Rattle.wire.specs.Refusals.{accepted, badLimits}
+use Rattle.wire.proofs.Tests.{and-both, cond-case, cond-holds}
+use Rattle.place.specs.Places.{vacant}
+use Rattle.place.specs.declared.limits.Limits.{Limits}
+use Rattle.unit.specs.States.{placeCount, limitsOk, placesOk, sound, noLimits, cold, coldStart}
 use Rattle.unit.specs.declared.state.State.{State}
-use Rattle.unit.specs.declared.answer.Started.{Started}
+use Rattle.unit.specs.declared.start.Started.{Started}
 
 abbrev code : Bool → ℕ
 code ok = cond ok accepted badLimits
@@ -15,13 +18,42 @@ code ok = cond ok accepted badLimits
 abbrev start : Bool → Limits → Limits
 start ok l = cond ok l noLimits
 
-pub started-by : (l : Limits) (b t : Bool) → b ≡ limitsOk l → b ≡ t → (s : State) → s ≡ cold (start t l) → _≡_ {A = Started} (record { code = code t; state = s }) (coldStart l)
+pub started-by : (l : Limits) (b t : Bool)
+    → b ≡ limitsOk l
+    → b ≡ t
+    → (s : State)
+    → s ≡ cold (start t l)
+    → _≡_ {A = Started} (record { code = code t; state = s }) (coldStart l)
 unfolding coldStart
 started-by l b t test known s fresh =
     ap (λ x. record { code = code t; state = x }) fresh
     ∙ by t
     ∙ ap (λ u. cond u (record { code = accepted; state = cold l }) (record { code = badLimits; state = cold noLimits })) (sym known ∙ test)
   where
-    by : (t : Bool) → _≡_ {A = Started} (record { code = code t; state = cold (start t l) }) (cond t (record { code = accepted; state = cold l }) (record { code = badLimits; state = cold noLimits }))
-    by true = mathlib.Core.Path.refl
-    by false = mathlib.Core.Path.refl
+    by : (t : Bool)
+        → _≡_ {A = Started} (record { code = code t; state = cold (start t l) }) (cond t (record { code = accepted; state = cold l }) (record { code = badLimits; state = cold noLimits }))
+    by true = refl
+    by false = refl
+
+-- a cold start is sound, a refused one too
+pub cold-sound : (n : ℕ) (l : Limits) → sound n (coldStart l .state) ≡ true
+unfolding coldStart cold sound placesOk
+cold-sound n l =
+    cond-case (λ (o : Started). sound n (o .state) ≡ true) (limitsOk l) (record { code = accepted; state = cold l })
+    (record { code = badLimits; state = cold noLimits })
+    (λ ok. and-both (limitsOk l) true ok refl)
+    (λ bad. refl)
+
+-- its places are vacant
+pub cold-vacant : (l : Limits) (i : ℕ) → getD (coldStart l .state .places) i vacant ≡ vacant
+unfolding coldStart cold
+cold-vacant l i =
+    cond-holds (λ (o : Started). getD (o .state .places) i vacant ≡ vacant) (limitsOk l) (record { code = accepted; state = cold l })
+    (record { code = badLimits; state = cold noLimits })
+    (all placeCount i)
+    (all placeCount i)
+  where
+    all : (k i : ℕ) → getD (replicate k vacant) i vacant ≡ vacant
+    all zero i = refl
+    all (suc k) zero = refl
+    all (suc k) (suc i) = all k i

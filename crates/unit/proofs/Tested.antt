@@ -11,13 +11,13 @@ use lib.ListN.{length, getD, drop, length-drop, drop-of-length-le}
 use lib.Seq.{drop-cons}
 use borrow.Author.Tests.{leb-true, le-leb, eq-eqb}
 use Rattle.record.specs.declared.partner.Partner.{Partner}
-use Rattle.record.proofs.Tests.{true-false}
+use Rattle.wire.proofs.Tests.{true-false}
 use Rattle.place.specs.Places.{vacant, holds, placeOk}
 use Rattle.place.specs.declared.phase.Phase.{Phase}
-use Rattle.place.specs.declared.seat.Direction.{Direction}
-use Rattle.place.specs.declared.seat.Holding.{Holding}
-use Rattle.place.specs.declared.seat.Holding.the-variants.{Held}
-use Rattle.place.specs.declared.seat.Place.{Place}
+use Rattle.place.specs.declared.place.Direction.{Direction}
+use Rattle.place.specs.declared.place.Holding.{Holding}
+use Rattle.place.specs.declared.place.Holding.the-variants.{Held}
+use Rattle.place.specs.declared.place.Place.{Place}
 use Rattle.unit.specs.States.{placeCount, first, limitsOk, trainOk, marksOk, absentFrom, placesOk, sound}
 use Rattle.unit.specs.declared.state.State.{State}
 
@@ -32,7 +32,11 @@ leb-same a b c d to from = by (leb a b) refl (leb c d) refl
     by false e false g = e ∙ sym g
 
 -- a search from the next place on that comes to the end found none
-pub absent-by : (ps : List Place) (i : ℕ) (k : Holding) (d : Direction) (ph : Phase) (p : Partner) (r : ℕ) → k ≡ Held d ph p → r ≡ i + 1 + first (holds p) (drop (i + 1) ps) → i < length ps → leb (length ps) r ≡ absentFrom (drop (i + 1) ps) k
+pub absent-by : (ps : List Place) (i : ℕ) (k : Holding) (d : Direction) (ph : Phase) (p : Partner) (r : ℕ)
+    → k ≡ Held d ph p
+    → r ≡ i + 1 + first (holds p) (drop (i + 1) ps)
+    → i < length ps
+    → leb (length ps) r ≡ absentFrom (drop (i + 1) ps) k
 absent-by ps i k d ph p r held found below =
     leb-same (length ps) r (length (drop (i + 1) ps)) (first (holds p) (drop (i + 1) ps)) (λ h. simp length-drop (omega arith))
     (λ h.
@@ -41,7 +45,10 @@ absent-by ps i k d ph p r held found below =
     ∙ sym (ap (absentFrom (drop (i + 1) ps)) held)
 
 module _ (n : ℕ) (ps : List Place) (i : ℕ) where
-  ok-drop : i < length ps → placesOk n (drop i ps) ≡ (placeOk n (getD ps i vacant) && (absentFrom (drop (i + 1) ps) (getD ps i vacant .holding) && placesOk n (drop (i + 1) ps)))
+  ok-drop :
+      i < length ps
+      → placesOk n (drop i ps)
+      ≡ (placeOk n (getD ps i vacant) && (absentFrom (drop (i + 1) ps) (getD ps i vacant .holding) && placesOk n (drop (i + 1) ps)))
   unfolding placesOk
   ok-drop below = rw (add-one, drop-cons ps i vacant below)
 
@@ -70,7 +77,9 @@ module _ (n : ℕ) (ps : List Place) (i : ℕ) where
       ok-bad fails = sym (tested ∙ split good absent _ ∙ ap (λ x. x && placesOk n (drop (i + 1) ps)) (sym test ∙ fails))
 
 -- a state with four places is sound where its parts are
-pub sound-four : (n : ℕ) (s : State) → length (s .places) ≡ placeCount → (limitsOk (s .limits) && (trainOk (s .train) && (marksOk (s .marks) && placesOk n (s .places)))) ≡ sound n s
+pub sound-four : (n : ℕ) (s : State)
+    → length (s .places) ≡ placeCount
+    → (limitsOk (s .limits) && (trainOk (s .train) && (marksOk (s .marks) && placesOk n (s .places)))) ≡ sound n s
 unfolding sound
 sound-four n s four =
     sym (ap (λ b. limitsOk (s .limits) && (trainOk (s .train) && (marksOk (s .marks) && (b && placesOk n (s .places))))) (eq-eqb (length (s .places)) placeCount four))

@@ -1,33 +1,37 @@
 -- The places weighed: the sum of a weight over all of them. One account of a store and of a closing serves every law that counts places.
--- Defines: weigh, once, here.
--- Proves: weigh-set, weigh-shut, weigh-few, weigh-at, length-shut.
-use mathlib.Core.Path.{_≡_, refl, ap}
-use mathlib.Core.Bool.{Bool, cond}
+-- Proves: weigh-same, weigh-less, weigh-set, weigh-closed, weigh-few, weigh-at, length-closed, closed-at.
+use mathlib.Core.Path.{_≡_, refl, ap, ap₂}
 use mathlib.Core.List.{List, [], _∷_}
 use Prim.Native.Nat.{ℕ, zero, suc, _+_, _≤_, _<_}
 use native.Mathlib.Nat.{le-of-suc-le-suc}
 use native.Mathlib.Omega.{arith}
 use lib.ListN.{length, getD, set}
 use Rattle.place.specs.Places.{vacant}
-use Rattle.place.specs.Table.{placeAfter, shutTurn}
-use Rattle.place.specs.declared.seat.Place.{Place}
-use Rattle.place.specs.declared.turn.Due.{Due}
-use Rattle.unit.specs.Steps.{shut}
+use Rattle.place.specs.Table.{placeAfter, closedBy}
+use Rattle.place.specs.declared.place.Place.{Place}
+use Rattle.place.specs.declared.turn.Closing.{Closing}
+use Rattle.unit.specs.Steps.{closed}
+use Rattle.unit.specs.Kept.{weigh}
 
--- the sum of a weight over the places
-unfoldable pub weigh : (Place → ℕ) → List Place → ℕ
-weigh f [] = 0
-weigh f (p ∷ ps) = f p + weigh f ps
+-- weights that agree at each place agree at all
+pub weigh-same : (f g : Place → ℕ) → ((p : Place) → f p ≡ g p) → (ps : List Place) → weigh f ps ≡ weigh g ps
+unfolding weigh
+weigh-same f g same [] = refl
+weigh-same f g same (p ∷ ps) = ap₂ _+_ (same p) (weigh-same f g same ps)
 
--- 1 for a test that passes, and for a place that passes one
-abbrev pub once : Bool → ℕ
-once b = cond b 1 0
-
-abbrev pub here : (Place → Bool) → Place → ℕ
-here test p = once (test p)
+-- and one that is less at each is less at all
+pub weigh-less : (f g : Place → ℕ) → ((p : Place) → f p ≤ g p) → (ps : List Place) → weigh f ps ≤ weigh g ps
+unfolding weigh
+weigh-less f g less [] = omega arith
+weigh-less f g less (p ∷ ps) =
+    let first = less p in
+    let rest = weigh-less f g less ps in
+    omega arith
 
 -- a store takes the old place's weight out and puts the new one's in
-pub weigh-set : (f : Place → ℕ) (ps : List Place) (i : ℕ) (x : Place) → i < length ps → weigh f (set ps i x) + f (getD ps i vacant) ≡ weigh f ps + f x
+pub weigh-set : (f : Place → ℕ) (ps : List Place) (i : ℕ) (x : Place)
+    → i < length ps
+    → weigh f (set ps i x) + f (getD ps i vacant) ≡ weigh f ps + f x
 unfolding weigh
 weigh-set f [] i x h = absurd (omega arith)
 weigh-set f (p ∷ ps) zero x h = omega arith
@@ -36,12 +40,14 @@ weigh-set f (p ∷ ps) (suc i) x h =
     omega arith
 
 -- a closing adds no weight that it adds to no place
-pub weigh-shut : (f : Place → ℕ) (which : Due) (ps : List Place) → ((p : Place) → f (placeAfter p (shutTurn which p)) ≤ f p) → weigh f (shut which ps) ≤ weigh f ps
-unfolding weigh shut
-weigh-shut f which [] h = omega arith
-weigh-shut f which (p ∷ ps) h =
+pub weigh-closed : (f : Place → ℕ) (which : Closing) (ps : List Place)
+    → ((p : Place) → f (placeAfter p (closedBy which p)) ≤ f p)
+    → weigh f (closed which ps) ≤ weigh f ps
+unfolding weigh closed
+weigh-closed f which [] h = omega arith
+weigh-closed f which (p ∷ ps) h =
     let first = h p in
-    let rest = weigh-shut f which ps h in
+    let rest = weigh-closed f which ps h in
     omega arith
 
 -- no more than one for each place
@@ -62,7 +68,15 @@ weigh-at f (p ∷ ps) (suc i) h =
     let rest = weigh-at f ps i (le-of-suc-le-suc h) in
     omega arith
 
-pub length-shut : (which : Due) (ps : List Place) → length (shut which ps) ≡ length ps
-unfolding shut
-length-shut which [] = refl
-length-shut which (p ∷ ps) = ap suc (length-shut which ps)
+pub length-closed : (which : Closing) (ps : List Place) → length (closed which ps) ≡ length ps
+unfolding closed
+length-closed which [] = refl
+length-closed which (p ∷ ps) = ap suc (length-closed which ps)
+
+-- each place after a closing is its own after its own turn
+pub closed-at : (which : Closing) (ps : List Place) (i : ℕ)
+    → getD (closed which ps) i vacant ≡ placeAfter (getD ps i vacant) (closedBy which (getD ps i vacant))
+unfolding closed
+closed-at which [] i = refl
+closed-at which (p ∷ ps) zero = refl
+closed-at which (p ∷ ps) (suc i) = closed-at which ps i

@@ -5,14 +5,17 @@ use mathlib.Core.List.{List, _++_}
 use Prim.Native.Nat.{ℕ, _*_, _≤_}
 use lib.ListN.{length, take, drop}
 use lib.Seq.{length-take-le}
-use Rattle.record.proofs.Blocks.{FilledTo}
-use Rattle.record.proofs.Padded.{padded-take}
+use Rattle.wire.proofs.Blocks.{FilledTo}
+use Rattle.wire.proofs.Padded.{padded-take}
 use Rattle.unit.specs.OnRecords.{actionSize, bytesOf, actionBytes, written}
 use Rattle.unit.specs.Forms.{mostActions, noAction, listed}
 use Rattle.unit.specs.declared.answer.Action.{Action}
 
 -- with all actions written the buffer is as defined
-pub written-end : (items : List Action) (s : List ℕ) (i count : ℕ) → i ≡ count → count ≤ length items → FilledTo bytesOf 0 items s i (actionSize * i) ≡ written (take count items) s
+pub written-end : (items : List Action) (s : List ℕ) (i count : ℕ)
+    → i ≡ count
+    → count ≤ length items
+    → FilledTo bytesOf 0 items s i (actionSize * i) ≡ written (take count items) s
 unfolding written
 written-end items s i count same few =
     ap (λ k. FilledTo bytesOf 0 items s k (actionSize * k)) same

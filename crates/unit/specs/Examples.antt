@@ -10,8 +10,8 @@ use Rattle.record.specs.declared.partner.Partner.{Partner}
 use Rattle.place.specs.Places.{tryLimit, vacant, seat}
 use Rattle.place.specs.declared.phase.Phase.{Phase}
 use Rattle.place.specs.declared.phase.Phase.the-variants.{Connecting, Contacting, Open, Ending}
-use Rattle.place.specs.declared.seat.Direction.the-variants.{Outgoing, Incoming}
-use Rattle.place.specs.declared.seat.Place.{Place}
+use Rattle.place.specs.declared.place.Direction.the-variants.{Outgoing, Incoming}
+use Rattle.place.specs.declared.place.Place.{Place}
 use Rattle.unit.specs.States.{coldStart, noMarks, placeCount}
 use Rattle.unit.specs.Steps.{Outcome, act}
 use Rattle.unit.specs.OnRecords.{trace}

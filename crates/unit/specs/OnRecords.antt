@@ -5,9 +5,9 @@ use mathlib.Core.Bool.{cond}
 use mathlib.Core.List.{List, [], _∷_, _++_}
 use lib.Dec.{leb}
 use lib.ListN.{length, drop}
-use Rattle.record.specs.Blocks.{blocks}
+use Rattle.wire.specs.Blocks.{blocks}
 use Rattle.record.specs.Records.{reading}
-use Rattle.record.specs.Refusals.{noRoom, notSound}
+use Rattle.wire.specs.Refusals.{noRoom, notSound}
 use Rattle.record.specs.declared.event.Reading.{Reading}
 use Rattle.record.specs.declared.event.Reading.the-variants.{Meant, Refused}
 use Rattle.unit.specs.States.{sound}

@@ -7,19 +7,19 @@ use mathlib.Core.List.{List, [], _∷_}
 use lib.Dec.{eqb, leb, ltb}
 use lib.ListN.{length, replicate}
 use Rattle.record.specs.Records.{highestLevel, missionEnded, missionUnderWay}
-use Rattle.record.specs.Refusals.{accepted, badLimits}
+use Rattle.wire.specs.Refusals.{accepted, badLimits}
 use Rattle.record.specs.declared.partner.Partner.{Partner}
 use Rattle.place.specs.Places.{vacant, isFree, holds, placeOk}
-use Rattle.place.specs.declared.seat.Holding.{Holding}
-use Rattle.place.specs.declared.seat.Holding.the-variants.{Free, Held}
-use Rattle.place.specs.declared.seat.Place.{Place}
-use Rattle.place.specs.declared.turn.Limits.{Limits}
+use Rattle.place.specs.declared.place.Holding.{Holding}
+use Rattle.place.specs.declared.place.Holding.the-variants.{Free, Held}
+use Rattle.place.specs.declared.place.Place.{Place}
+use Rattle.place.specs.declared.limits.Limits.{Limits}
 use Rattle.unit.specs.declared.state.Train.{Train}
 use Rattle.unit.specs.declared.state.Marks.{Marks}
 use Rattle.unit.specs.declared.state.State.{State}
-use Rattle.unit.specs.declared.state.Found.{Found}
-use Rattle.unit.specs.declared.state.Found.the-variants.{At, Vacant, Full}
-use Rattle.unit.specs.declared.answer.Started.{Started}
+use Rattle.unit.specs.declared.search.Found.{Found}
+use Rattle.unit.specs.declared.search.Found.the-variants.{At, Vacant, Full}
+use Rattle.unit.specs.declared.start.Started.{Started}
 
 -- "Four places, 0 to 3"
 abbrev pub placeCount : ℕ

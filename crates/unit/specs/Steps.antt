@@ -1,6 +1,6 @@
 -- Document 01, "Rules of one step": one step on values, for every kind of event.
--- Defines: Outcome, refused, done, withTrain, withMarks, withPlaces, act, markManual, levelled, markMode, markHole, holeTaken,
--- holed, actionsIn, shut, shutting, sweep, withMission, missioned, radioLevel, inForce, spend, displaced, takenIn, orderedAt,
+-- Defines: Outcome, refused, done, withTrain, withMarks, withPlaces, act, markManual, withLevel, markMode, markHole, holeTaken,
+-- atHole, actionsIn, closed, closingActions, closePlaces, withMission, atMission, radioLevel, inForce, spend, displaced, takenIn, orderedAt,
 -- ordered, calledAt, called, turnedAt, turned, namedAt, step.
 use Prim.Native.Nat.{ℕ}
 use mathlib.Core.Bool.{Bool, true, false, cond, _&&_, _||_, not}
@@ -9,7 +9,7 @@ use lib.Dec.{eqb}
 use lib.ListN.{getD, set}
 use Rattle.record.specs.Partners.{isRbc}
 use Rattle.record.specs.Records.{missionEnded, missionStarting}
-use Rattle.record.specs.Refusals as refusal
+use Rattle.wire.specs.Refusals as refusal
 use Rattle.record.specs.declared.partner.Partner.{Partner}
 use Rattle.record.specs.declared.event.Cause.{Cause}
 use Rattle.record.specs.declared.event.Cause.the-variants.{StartOfMission, Trackside, ModeChange, ManualLevel, HoleEnd}
@@ -17,21 +17,21 @@ use Rattle.record.specs.declared.event.PartnerEvent.{PartnerEvent}
 use Rattle.record.specs.declared.event.Event.{Event}
 use Rattle.record.specs.declared.event.Event.the-variants.{Level, Mission, Mode, Hole, Order, EndAll, Call, Named}
 use Rattle.place.specs.Places.{vacant, seat}
-use Rattle.place.specs.Table.{request, established, firstTry, takes, numbers, placeAfter, placeTurn, shutTurn}
+use Rattle.place.specs.Table.{request, established, firstTry, takes, numbers, placeAfter, placeTurn, closedBy}
 use Rattle.place.specs.declared.phase.Phase.the-variants.{Connecting, Open}
-use Rattle.place.specs.declared.seat.Direction.the-variants.{Outgoing, Incoming}
-use Rattle.place.specs.declared.seat.Holding.{Holding}
-use Rattle.place.specs.declared.seat.Holding.the-variants.{Free, Held}
-use Rattle.place.specs.declared.seat.Place.{Place}
+use Rattle.place.specs.declared.place.Direction.the-variants.{Outgoing, Incoming}
+use Rattle.place.specs.declared.place.Holding.{Holding}
+use Rattle.place.specs.declared.place.Holding.the-variants.{Free, Held}
+use Rattle.place.specs.declared.place.Place.{Place}
 use Rattle.place.specs.declared.turn.Turn.{Turn}
-use Rattle.place.specs.declared.turn.Due.{Due}
-use Rattle.place.specs.declared.turn.Due.the-variants.{Every, Sessions, Nothing}
+use Rattle.place.specs.declared.turn.Closing.{Closing}
+use Rattle.place.specs.declared.turn.Closing.the-variants.{Every, Sessions, Nothing}
 use Rattle.unit.specs.States.{seek}
 use Rattle.unit.specs.declared.state.Train.{Train}
 use Rattle.unit.specs.declared.state.Marks.{Marks}
 use Rattle.unit.specs.declared.state.State.{State}
-use Rattle.unit.specs.declared.state.Found.{Found}
-use Rattle.unit.specs.declared.state.Found.the-variants.{At, Vacant, Full}
+use Rattle.unit.specs.declared.search.Found.{Found}
+use Rattle.unit.specs.declared.search.Found.the-variants.{At, Vacant, Full}
 use Rattle.unit.specs.declared.answer.Action.{Action}
 
 -- what a step gives: 0 or the refusal, the next state, and the actions in their order
@@ -66,8 +66,8 @@ act p number = record { number = number; partner = p }
 abbrev pub markManual : Marks → Bool → Marks
 markManual m manual = record { inside = m .inside; mode = m .mode; manual = m .manual || manual; end = m .end }
 
-abbrev pub levelled : State → ℕ → Bool → State
-levelled s level manual =
+abbrev pub withLevel : State → ℕ → Bool → State
+withLevel s level manual =
     withMarks (withTrain s (record { level = level; mission = s .train .mission })) (markManual (s .marks) manual)
 
 -- "Mode change: sets its mark"
@@ -83,8 +83,8 @@ abbrev pub holeTaken : Marks → Bool → Bool
 holeTaken m true = not (m .inside)
 holeTaken m false = m .inside
 
-abbrev pub holed : State → Bool → Outcome
-holed s entered = cond (holeTaken (s .marks) entered) (done (withMarks s (markHole (s .marks) entered)) []) (refused refusal.notTaken s)
+abbrev pub atHole : State → Bool → Outcome
+atHole s entered = cond (holeTaken (s .marks) entered) (done (withMarks s (markHole (s .marks) entered)) []) (refused refusal.notTaken s)
 
 -- the actions of a place's turn, for the partner that it holds
 abbrev pub actionsIn : Holding → Turn → List Action
@@ -92,25 +92,25 @@ actionsIn Free t = []
 actionsIn (Held d ph p) t = map (act p) (numbers t)
 
 -- the places after a closing of those that are due, and its actions, "lowest first"
-unfoldable pub shut : Due → List Place → List Place
-shut which [] = []
-shut which (p ∷ ps) = placeAfter p (shutTurn which p) ∷ shut which ps
+unfoldable pub closed : Closing → List Place → List Place
+closed which [] = []
+closed which (p ∷ ps) = placeAfter p (closedBy which p) ∷ closed which ps
 
-unfoldable pub shutting : Due → List Place → List Action
-shutting which [] = []
-shutting which (p ∷ ps) = actionsIn (p .holding) (shutTurn which p) ++ shutting which ps
+unfoldable pub closingActions : Closing → List Place → List Action
+closingActions which [] = []
+closingActions which (p ∷ ps) = actionsIn (p .holding) (closedBy which p) ++ closingActions which ps
 
 -- "End all: closes every place, lowest first, that is not Ending; with no such place it is accepted and does no more"
-abbrev pub sweep : Due → State → Outcome
-sweep which s = done (withPlaces s (shut which (s .places))) (shutting which (s .places))
+abbrev pub closePlaces : Closing → State → Outcome
+closePlaces which s = done (withPlaces s (closed which (s .places))) (closingActions which (s .places))
 
 -- "Mission: stored; 0 also ends all"
 abbrev pub withMission : State → ℕ → State
 withMission s mission = withTrain s (record { level = s .train .level; mission = mission })
 
-abbrev pub missioned : State → ℕ → Outcome
-missioned s mission =
-    cond (eqb mission missionEnded) (sweep Every (withMission s mission)) (done (withMission s mission) [])
+abbrev pub atMission : State → ℕ → Outcome
+atMission s mission =
+    cond (eqb mission missionEnded) (closePlaces Every (withMission s mission)) (done (withMission s mission) [])
 
 -- "level 2 or 3"
 abbrev pub radioLevel : Train → Bool
@@ -133,7 +133,7 @@ spend ManualLevel m = record { inside = m .inside; mode = m .mode; manual = fals
 spend HoleEnd m = record { inside = m .inside; mode = m .mode; manual = m .manual; end = false }
 
 -- "If the partner is an RBC and accepting is 0, each RBC place in Open or Lost is closed"
-abbrev pub displaced : Partner → Bool → Due
+abbrev pub displaced : Partner → Bool → Closing
 displaced p accepting = cond (isRbc p && not accepting) Sessions Nothing
 
 -- "Then the partner takes the lowest-numbered free place as Connecting, outgoing, tries 1, with action 21 last"
@@ -146,7 +146,7 @@ takenIn o i p =
 abbrev pub orderedAt : State → Partner → Bool → Cause → Found → Outcome
 orderedAt s p accepting cause (At i) = refused refusal.hasPlace s
 orderedAt s p accepting cause (Vacant i) =
-    takenIn (sweep (displaced p accepting) (withMarks s (spend cause (s .marks)))) i p
+    takenIn (closePlaces (displaced p accepting) (withMarks s (spend cause (s .marks)))) i p
 orderedAt s p accepting cause Full = refused refusal.allTaken s
 
 -- "for an order 4, 5, 8"
@@ -183,11 +183,11 @@ namedAt n s p e Full = refused refusal.hasNone s
 
 -- one step, n being the limit of tries
 unfoldable pub step : ℕ → State → Event → Outcome
-step n s (Level level manual) = done (levelled s level manual) []
-step n s (Mission mission) = missioned s mission
+step n s (Level level manual) = done (withLevel s level manual) []
+step n s (Mission mission) = atMission s mission
 step n s Mode = done (withMarks s (markMode (s .marks))) []
-step n s (Hole entered) = holed s entered
+step n s (Hole entered) = atHole s entered
 step n s (Order p accepting cause) = ordered s p accepting cause
-step n s EndAll = sweep Every s
+step n s EndAll = closePlaces Every s
 step n s (Call p) = called s p
 step n s (Named p e) = namedAt n s p e (seek p (s .places))

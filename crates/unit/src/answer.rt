@@ -5,7 +5,7 @@ ghost use Rattle.place.specs.Table.{numbers};
 ghost use Rattle.unit.specs.Steps.{refused};
 ghost use Rattle.unit.specs.Forms.{listed, pushed, pushAll, packed};
 use crate::state::State;
-use place::turn::RELEASE;
+use place::action::RELEASE;
 use place::turn::Turn;
 use record::partner::Partner;
 
@@ -36,12 +36,6 @@ pub struct Stepped {
     pub code: u8,
     pub state: State,
     pub count: usize,
-}
-
-// What a cold start or a reading of an image answers: 0 or the number of the refusal, and the state.
-pub struct Started {
-    pub code: u8,
-    pub state: State,
 }
 
 impl Actions {
@@ -83,7 +77,7 @@ impl Actions {
         ensures { λ r. ⌜ r ≡ pushAll self partner (numbers turn) ⌝ }
     {
         match turn {
-            Turn::Refused => self,
+            Turn::Stays => self,
             Turn::Released => self.push(partner, RELEASE),
             Turn::Becomes(_) => self,
             Turn::Sends { number, phase: _ } => self.push(partner, number),

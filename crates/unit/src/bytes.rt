@@ -12,8 +12,8 @@ use crate::answer::Stepped;
 use crate::state::State;
 use record::event::Reading;
 use record::read::read;
-use record::refusal::NO_ROOM;
-use record::refusal::NOT_SOUND;
+use wire::refusal::NO_ROOM;
+use wire::refusal::NOT_SOUND;
 
 // The bytes of one action, and the least room for a step's.
 pub const ACTION_SIZE: usize = 5;
@@ -51,7 +51,10 @@ impl State {
     // One step on an event record: refusals 10, 11, 1, 2, 1, 3 and then those of the event, the first that applies.
     // An accepted step writes its actions to the front of the buffer and no other byte; a refused one writes nothing.
     pub fn on_record(self, bytes: &[u8], actions: &mut [u8]) -> Stepped
-        ensures { λ r. ⌜ (r ≡ stepped (onRecord tryLimit self (now (bytes .entry)) (length (now (actions .entry))))) × (now (actions .exit) ≡ written (onRecord tryLimit self (now (bytes .entry)) (length (now (actions .entry))) .actions) (now (actions .entry))) ⌝ }
+        ensures { λ r.
+            ⌜ (r ≡ stepped (onRecord tryLimit self (now (bytes .entry)) (length (now (actions .entry)))))
+            × (now (actions .exit)
+            ≡ written (onRecord tryLimit self (now (bytes .entry)) (length (now (actions .entry))) .actions) (now (actions .entry))) ⌝ }
     {
         if actions.len() < ACTION_ROOM {
             return Stepped {

@@ -7,38 +7,38 @@ ghost use lib.ListN.{getD, set};
 ghost use Rattle.place.specs.Places.{tryLimit, vacant};
 ghost use Rattle.place.specs.Table.{numbers, placeTurn};
 ghost use Rattle.unit.specs.States.{placeCount};
-ghost use Rattle.unit.specs.Steps.{refused, done, act, withTrain, withMarks, withPlaces, sweep, takenIn, turned, step};
-ghost use Rattle.place.specs.declared.turn.Due.the-variants.{Every};
-ghost use Rattle.unit.specs.Forms.{noted, carried};
+ghost use Rattle.unit.specs.Steps.{refused, done, act, withTrain, withMarks, withPlaces, closePlaces, takenIn, turned, step};
+ghost use Rattle.place.specs.declared.turn.Closing.the-variants.{Every};
+ghost use Rattle.unit.specs.Changes.{noted, carried};
 use crate::order::displaced;
 use crate::order::in_force;
 use crate::order::spend;
-use crate::state::Found;
+use crate::search::Found;
 use crate::state::MISSION_ENDED;
 use crate::state::Marks;
 use crate::state::PLACES;
 use crate::state::State;
 use crate::state::Train;
+use place::action::ESTABLISHED;
+use place::action::REQUEST;
 use place::phase::FIRST_TRY;
 use place::phase::Phase;
-use place::seat::Direction;
-use place::seat::Place;
-use place::turn::Due;
-use place::turn::ESTABLISHED;
-use place::turn::REQUEST;
+use place::place::Direction;
+use place::place::Place;
+use place::turn::Closing;
 use place::turn::Turn;
 use record::event::Cause;
 use record::event::Event;
 use record::event::PartnerEvent;
 use record::partner::Partner;
-use record::refusal::ACCEPTED;
-use record::refusal::ALL_TAKEN;
-use record::refusal::CALL_FROM_RIU;
-use record::refusal::HAS_NONE;
-use record::refusal::HAS_PLACE;
-use record::refusal::NOT_IN_FORCE;
-use record::refusal::NOT_TAKEN;
-use record::test::or;
+use wire::join::or;
+use wire::refusal::ACCEPTED;
+use wire::refusal::ALL_TAKEN;
+use wire::refusal::CALL_FROM_RIU;
+use wire::refusal::HAS_NONE;
+use wire::refusal::HAS_PLACE;
+use wire::refusal::NOT_IN_FORCE;
+use wire::refusal::NOT_TAKEN;
 
 // A step before it is carried out: 0 or the number of the refusal; the train and the marks after it; which places are closed;
 // then the place that is set, if its number is one of the four, and the partner and turn whose actions are sent last.
@@ -46,7 +46,7 @@ pub(crate) struct Change {
     pub code: u8,
     pub train: Train,
     pub marks: Marks,
-    pub which: Due,
+    pub which: Closing,
     pub at: usize,
     pub place: Place,
     pub partner: Partner,
@@ -55,7 +55,7 @@ pub(crate) struct Change {
 
 impl Change {
     // A change that sets no place.
-    fn noted(code: u8, train: Train, marks: Marks, which: Due) -> Change
+    fn noted(code: u8, train: Train, marks: Marks, which: Closing) -> Change
         ensures { λ r. ⌜ r ≡ noted code train marks which ⌝ }
     {
         Change {
@@ -71,7 +71,7 @@ impl Change {
                 middle: 0,
                 low: 0,
             },
-            turn: Turn::Refused,
+            turn: Turn::Stays,
         }
     }
 }
@@ -83,22 +83,22 @@ impl State {
     {
         let train = self.train;
         let marks = self.marks;
-        Change::noted(code, train, marks, Due::Nothing)
+        Change::noted(code, train, marks, Closing::Nothing)
     }
 
     // Another train and other marks.
     fn note(self, train: Train, marks: Marks) -> Change
         ensures { λ r. ⌜ carried self r ≡ done (withMarks (withTrain self train) marks) [] ⌝ }
     {
-        Change::noted(ACCEPTED, train, marks, Due::Nothing)
+        Change::noted(ACCEPTED, train, marks, Closing::Nothing)
     }
 
     // Another train, and every place closed.
     fn close_all(self, train: Train) -> Change
-        ensures { λ r. ⌜ carried self r ≡ sweep Every (withTrain self train) ⌝ }
+        ensures { λ r. ⌜ carried self r ≡ closePlaces Every (withTrain self train) ⌝ }
     {
         let marks = self.marks;
-        Change::noted(ACCEPTED, train, marks, Due::Every)
+        Change::noted(ACCEPTED, train, marks, Closing::Every)
     }
 
     fn level(self, level: u32, manual: bool) -> Change
@@ -168,8 +168,8 @@ impl State {
     }
 
     // The partner takes this place after the closings.
-    fn take_in(self, marks: Marks, which: Due, at: usize, partner: Partner) -> Change
-        ensures { λ r. ⌜ carried self r ≡ takenIn (sweep which (withMarks self marks)) at partner ⌝ }
+    fn take_in(self, marks: Marks, which: Closing, at: usize, partner: Partner) -> Change
+        ensures { λ r. ⌜ carried self r ≡ takenIn (closePlaces which (withMarks self marks)) at partner ⌝ }
     {
         let train = self.train;
         let phase = Phase::Connecting(FIRST_TRY);
@@ -221,7 +221,7 @@ impl State {
             code: ACCEPTED,
             train,
             marks,
-            which: Due::Nothing,
+            which: Closing::Nothing,
             at,
             place,
             partner,
@@ -253,7 +253,8 @@ impl State {
     // What an event that names this partner makes of its place.
     fn turn(self, at: usize, partner: Partner, event: PartnerEvent) -> Change
         requires { ⌜ at < placeCount ⌝ }
-        ensures { λ r. ⌜ carried self r ≡ turned self at partner (placeTurn tryLimit (self .limits) (getD (self .places) at vacant) event) ⌝ }
+        ensures { λ r.
+            ⌜ carried self r ≡ turned self at partner (placeTurn tryLimit (self .limits) (getD (self .places) at vacant) event) ⌝ }
     {
         let limits = self.limits;
         let place = self.places[at];

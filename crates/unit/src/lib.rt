@@ -3,5 +3,7 @@ pub mod answer;
 pub mod bytes;
 pub mod change;
 pub mod order;
+pub mod search;
+pub mod start;
 pub mod state;
 pub mod step;

@@ -4,12 +4,12 @@ ghost use Rattle.unit.specs.Steps.{radioLevel, inForce, spend, displaced
 use crate::state::MISSION_ENDED;
 use crate::state::Marks;
 use crate::state::Train;
-use place::turn::Due;
+use place::turn::Closing;
 use record::event::Cause;
 use record::partner::Partner;
-use record::test::and;
-use record::test::negated;
-use record::test::or;
+use wire::join::and;
+use wire::join::negated;
+use wire::join::or;
 
 // The mission that a start of mission is ordered in, and the levels with a radio.
 const MISSION_STARTING: u32 = 1;
@@ -65,12 +65,12 @@ pub fn spend(cause: Cause, marks: Marks) -> Marks
 }
 
 // The places that an order closes: sessions with RBCs, for an RBC that does not accept them.
-pub fn displaced(partner: Partner, accepting: bool) -> Due
+pub fn displaced(partner: Partner, accepting: bool) -> Closing
     ensures { λ r. ⌜ r ≡ displaced partner accepting ⌝ }
 {
     if and(partner.is_rbc(), negated(accepting)) {
-        Due::Sessions
+        Closing::Sessions
     } else {
-        Due::Nothing
+        Closing::Nothing
     }
 }

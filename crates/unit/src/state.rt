@@ -1,18 +1,14 @@
-// The state of the box: what it remembers, the search over its places, soundness, and the cold start.
+// The state of the box: what it remembers, and whether that is sound.
 ghost use mathlib.Core.Path.{_≡_};
-ghost use Prim.Native.Nat.{_+_, _≤_, _<_};
+ghost use Prim.Native.Nat.{_+_, _<_};
 ghost use lib.ListN.{drop, getD};
-ghost use Rattle.place.specs.Places.{vacant, isFree, holds, tryLimit};
-ghost use Rattle.unit.specs.States.{placeCount, first, seek, limitsOk, trainOk, marksOk, absentFrom, placesOk, sound, cold, coldStart};
-use crate::answer::Started;
-use place::seat::Holding;
-use place::seat::Place;
-use place::turn::Limits;
-use record::partner::Partner;
-use record::refusal::ACCEPTED;
-use record::refusal::BAD_LIMITS;
-use record::test::and;
-use record::test::negated;
+ghost use Rattle.place.specs.Places.{vacant, tryLimit};
+ghost use Rattle.unit.specs.States.{placeCount, limitsOk, trainOk, marksOk, absentFrom, placesOk, sound};
+use place::limits::Limits;
+use place::place::Holding;
+use place::place::Place;
+use wire::join::and;
+use wire::join::negated;
 
 // Four places, 0 to 3.
 pub const PLACES: usize = 4;
@@ -20,9 +16,9 @@ pub const PLACES: usize = 4;
 // The largest X, level and mission.
 const HIGHEST_X: u32 = 7;
 
-const HIGHEST_LEVEL: u32 = 4;
+const HIGHEST_LEVEL: u32 = record::read::HIGHEST_LEVEL as u32;
 
-const HIGHEST_MISSION: u32 = 2;
+const HIGHEST_MISSION: u32 = record::read::HIGHEST_MISSION as u32;
 
 // The mission that a cold start begins with.
 pub const MISSION_ENDED: u32 = 0;
@@ -49,14 +45,8 @@ pub struct State {
     pub places: [Place; 4],
 }
 
-// What a search over the places answers: the place of the partner, else the lowest free place, else that all are taken.
-pub enum Found {
-    At(usize),
-    Vacant(usize),
-    Full,
-}
-
-fn limits_ok(limits: Limits) -> bool
+// Whether the X numbers are in their ranges.
+pub(crate) fn limits_ok(limits: Limits) -> bool
     ensures { λ r. ⌜ r ≡ limitsOk limits ⌝ }
 {
     and(limits.lowest <= limits.highest, limits.highest <= HIGHEST_X)
@@ -77,98 +67,7 @@ fn marks_ok(marks: Marks) -> bool
     negated(and(marks.inside, marks.end))
 }
 
-fn cold(limits: Limits) -> State
-    ensures { λ r. ⌜ r ≡ cold limits ⌝ }
-{
-    State {
-        limits,
-        train: Train {
-            level: 0,
-            mission: MISSION_ENDED,
-        },
-        marks: Marks {
-            inside: false,
-            mode: false,
-            manual: false,
-            end: false,
-        },
-        places: [Place {
-            holding: Holding::Free,
-        }; 4],
-    }
-}
-
-// A cold start with the two X numbers; refusal 13 where one is over 7 or the lowest is over the highest.
-pub fn cold_start(limits: Limits) -> Started
-    ensures { λ r. ⌜ r ≡ coldStart limits ⌝ }
-{
-    if limits_ok(limits) {
-        Started {
-            code: ACCEPTED,
-            state: cold(limits),
-        }
-    } else {
-        Started {
-            code: BAD_LIMITS,
-            state: cold(Limits {
-                lowest: 0,
-                highest: 0,
-            }),
-        }
-    }
-}
-
 impl State {
-    // The number of the lowest place from this one on that holds the partner; 4 where none does.
-    fn place_from(self, partner: Partner, from: usize) -> usize
-        requires { ⌜ from ≤ placeCount ⌝ }
-        ensures { λ r. ⌜ r ≡ from + first (holds partner) (drop from (self .places)) ⌝ }
-    {
-        let mut i = from;
-        loop {
-            if i >= PLACES {
-                break PLACES;
-            }
-            let place = self.places[i];
-            if place.holds(partner) {
-                break i;
-            }
-            i += 1;
-        }
-    }
-
-    // The number of the lowest free place; 4 where none is free.
-    fn lowest_free(self) -> usize
-        ensures { λ r. ⌜ r ≡ first isFree (self .places) ⌝ }
-    {
-        let mut i = 0;
-        loop {
-            if i >= PLACES {
-                break PLACES;
-            }
-            let place = self.places[i];
-            if place.is_free() {
-                break i;
-            }
-            i += 1;
-        }
-    }
-
-    // The place of a partner, else the lowest free place, else that all are taken.
-    pub fn seek(self, partner: Partner) -> Found
-        ensures { λ r. ⌜ r ≡ seek partner (self .places) ⌝ }
-    {
-        let held = self.place_from(partner, 0);
-        if held < PLACES {
-            return Found::At(held);
-        }
-        let free = self.lowest_free();
-        if free < PLACES {
-            return Found::Vacant(free);
-        }
-        Found::Full
-    }
-
     // Whether no higher place holds the partner of this one.
     fn absent_above(self, i: usize) -> bool
         requires { ⌜ i < placeCount ⌝ }

@@ -3,39 +3,40 @@ ghost use mathlib.Core.Path.{_≡_};
 ghost use Prim.Native.Nat.{_≤_};
 ghost use lib.ListN.{length};
 ghost use Rattle.place.specs.Places.{tryLimit};
-ghost use Rattle.unit.specs.Steps.{sweep, step};
-ghost use Rattle.unit.specs.Forms.{mostActions, closes, settled, carried, packed};
+ghost use Rattle.unit.specs.Steps.{closePlaces, step};
+ghost use Rattle.unit.specs.Forms.{mostActions, packed};
+ghost use Rattle.unit.specs.Changes.{closesAny, settled, carried};
 use crate::answer::Actions;
 use crate::answer::Answer;
 use crate::change::Change;
 use crate::state::PLACES;
 use crate::state::State;
-use place::turn::Due;
+use place::turn::Closing;
 use record::event::Event;
-use record::refusal::ACCEPTED;
+use wire::refusal::ACCEPTED;
 
 // Whether any place can be due.
-fn closes(which: Due) -> bool
-    ensures { λ r. ⌜ r ≡ closes which ⌝ }
+fn closes_any(which: Closing) -> bool
+    ensures { λ r. ⌜ r ≡ closesAny which ⌝ }
 {
     match which {
-        Due::Every => true,
-        Due::Sessions => true,
-        Due::Nothing => false,
+        Closing::Every => true,
+        Closing::Sessions => true,
+        Closing::Nothing => false,
     }
 }
 
 impl State {
     // Closes the places that are due, lowest first.
-    fn sweep(self, which: Due) -> Answer
-        ensures { λ r. ⌜ r ≡ packed (sweep which self) ⌝ }
+    fn close_places(self, which: Closing) -> Answer
+        ensures { λ r. ⌜ r ≡ packed (closePlaces which self) ⌝ }
     {
         let mut places = self.places;
         let mut actions = Actions::none();
         let mut i = 0;
         while i < PLACES {
             let place = places[i];
-            let turn = place.shut(which);
+            let turn = place.closed_by(which);
             actions = actions.send(place.partner(), turn);
             places[i] = place.after(turn);
             i += 1;
@@ -68,16 +69,16 @@ impl State {
     }
 
     // The closings of a change, then the rest of it.
-    fn sweep_and_settle(self, change: Change) -> Answer
+    fn close_and_settle(self, change: Change) -> Answer
         requires { ⌜ length (carried self change .actions) ≤ mostActions ⌝ }
         ensures { λ r. ⌜ r ≡ packed (carried self change) ⌝ }
     {
         let which = change.which;
         let partner = change.partner;
         let turn = change.turn;
-        let swept = self.sweep(which);
-        let state = swept.state;
-        let actions = swept.actions;
+        let closed = self.close_places(which);
+        let state = closed.state;
+        let actions = closed.actions;
         Answer {
             code: change.code,
             state: state.settle(change),
@@ -93,8 +94,8 @@ impl State {
         let which = change.which;
         let partner = change.partner;
         let turn = change.turn;
-        if closes(which) {
-            return self.sweep_and_settle(change);
+        if closes_any(which) {
+            return self.close_and_settle(change);
         }
         Answer {
             code: change.code,

@@ -4,17 +4,17 @@ use crate::part::front;
 use crate::part::number_at;
 use crate::part::rest;
 use crate::part::word;
-use image::same;
-use place::seat::Holding;
-use place::seat::Place;
-use place::turn::Limits;
+use image::read::same;
+use place::limits::Limits;
+use place::place::Holding;
+use place::place::Place;
 use record::partner::Partner;
-use record::read::byte_at;
-use record::test::and;
 use unit::bytes::ACTION_SIZE;
 use unit::state::Marks;
 use unit::state::State;
 use unit::state::Train;
+use wire::byte::byte_at;
+use wire::join::and;
 
 // The bytes of a state: an image's after its kind.
 pub const STATE_SIZE: usize = 36;

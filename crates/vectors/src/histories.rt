@@ -10,10 +10,10 @@ use crate::part::rest;
 use crate::part::short_at;
 use crate::part::sum;
 use crate::single::limits_in;
-use record::refusal::ACCEPTED;
-use record::test::and;
+use unit::start::cold_start;
 use unit::state::State;
-use unit::state::cold_start;
+use wire::join::and;
+use wire::refusal::ACCEPTED;
 
 // Where the records begin: after two limits and their number.
 const RECORDS_AT: usize = 4;

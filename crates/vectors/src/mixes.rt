@@ -11,19 +11,19 @@ use crate::part::number_at;
 use crate::part::rest;
 use crate::part::sum;
 use crate::part::word;
-use image::state_in;
+use image::read::state_in;
 use place::phase::FIRST_TRY;
 use place::phase::Phase;
-use place::seat::Direction;
-use place::seat::Place;
+use place::place::Direction;
+use place::place::Place;
 use record::partner::Partner;
 use record::partner::RBC;
 use record::partner::RIU;
 use record::read::KIND_MISSION;
-use record::read::byte_at;
-use record::refusal::ACCEPTED;
-use record::test::and;
 use unit::state::State;
+use wire::byte::byte_at;
+use wire::join::and;
+use wire::refusal::ACCEPTED;
 
 // What a place may hold: nothing, an RBC in one of five phases, or an RIU in one of them.
 const CHOICES: usize = 11;

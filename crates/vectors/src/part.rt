@@ -2,7 +2,7 @@
 ghost use mathlib.Core.Path.{_≡_};
 ghost use Prim.Native.Nat.{_<_};
 ghost use lib.ListN.{length};
-use record::read::byte_at;
+use wire::byte::byte_at;
 
 // The number of a byte.
 pub(crate) fn wide(n: u8) -> usize

@@ -7,14 +7,14 @@ use crate::part::front;
 use crate::part::long_at;
 use crate::part::rest;
 use crate::part::short_at;
-use image::state_in;
-use record::read::byte_at;
-use record::test::and;
+use image::read::state_in;
 use run::Report;
 use run::Tally;
 use run::Totals;
 use run::run;
 use unit::state::State;
+use wire::byte::byte_at;
+use wire::join::and;
 
 // The bytes of a report: code, stop, nine numbers and the state.
 const REPORT_SIZE: usize = 74;

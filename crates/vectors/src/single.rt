@@ -7,16 +7,16 @@ use crate::part::filled;
 use crate::part::number_at;
 use crate::part::rest;
 use crate::part::word;
-use image::read_image;
-use image::same;
-use image::state_in;
-use image::write_image;
-use place::turn::Limits;
-use record::read::byte_at;
-use record::test::and;
-use unit::answer::Started;
+use image::read::read_image;
+use image::read::same;
+use image::read::state_in;
+use image::write::write_image;
+use place::limits::Limits;
+use unit::start::Started;
+use unit::start::cold_start;
 use unit::state::State;
-use unit::state::cold_start;
+use wire::byte::byte_at;
+use wire::join::and;
 
 // The bytes of an answer before its buffer: code, count and state.
 const ANSWER_SIZE: usize = 38;

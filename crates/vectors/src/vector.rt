@@ -11,7 +11,7 @@ use crate::single::load_holds;
 use crate::single::start_holds;
 use crate::single::step_holds;
 use crate::single::store_holds;
-use record::read::byte_at;
+use wire::byte::byte_at;
 
 // The groups are 1 to 9.
 const GROUPS: u8 = 9;

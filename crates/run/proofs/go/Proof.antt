@@ -9,7 +9,8 @@ use lib.Dec.{lit≤}
 use lib.ListN.{length, drop, length-drop, drop-of-length-le}
 use Rattle.place.specs.Places.{tryLimit}
 use Rattle.unit.specs.States.{sound}
-use Rattle.run.specs.Runs.{Bounded, go}
+use Rattle.run.specs.Runs.{go}
+use Rattle.run.specs.Counting.{Bounded}
 use Rattle.run.proofs.Tallies.{bounded-fresh}
 use Rattle.run.proofs.Takes.{go-end, go-budget, go-stop}
 use Rattle.run.proofs.Going.{whole-ok, part-is, part-ready, run-next}

@@ -2,7 +2,7 @@
 use borrow.Author.Needs.{needs}
 use mathlib.Core.Path.{sym, _∙_}
 use denote.Ref.{now}
-use Rattle.record.specs.Refusals.{notSound, logTooLong}
+use Rattle.wire.specs.Refusals.{notSound, logTooLong}
 use Rattle.place.specs.Places.{tryLimit}
 use Rattle.run.proofs.Starting.{run-long, run-unsound, run-sound}
 use Rattle.run.proofs.run.Statement.{statement}

@@ -2,7 +2,7 @@
 use borrow.Author.Needs.{needs}
 use mathlib.Core.Path.{sym, ap}
 use borrow.Author.Tests.{ne-eqb}
-use Rattle.run.specs.Runs.{added}
+use Rattle.run.specs.Counting.{added}
 use Rattle.run.proofs.Totals.add.Statement.{statement}
 use Rattle.run.proofs.Totals.add.Tie as tie
 

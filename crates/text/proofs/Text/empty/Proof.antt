@@ -1,6 +1,6 @@
 -- No character.
 use mathlib.Core.Path.{refl}
-use Rattle.text.specs.Texts.{texted}
+use Rattle.text.specs.Making.{texted}
 use Rattle.text.proofs.Text.empty.Statement.{statement}
 use Rattle.text.proofs.Text.empty.Tie as tie
 

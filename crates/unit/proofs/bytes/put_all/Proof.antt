@@ -6,8 +6,8 @@ use native.Mathlib.Omega.{arith}
 use denote.Ref.{now}
 use lib.ListN.{length, length-map, getD}
 use lib.Seq.{sets, length-sets}
-use Rattle.record.specs.Blocks.{blocks}
-use Rattle.record.proofs.Blocks.{FilledTo, filled-more}
+use Rattle.wire.specs.Blocks.{blocks}
+use Rattle.wire.proofs.Blocks.{FilledTo, filled-more}
 use Rattle.unit.specs.OnRecords.{actionSize, bytesOf}
 use Rattle.unit.specs.Forms.{noAction}
 use Rattle.unit.proofs.Written.{written-end}

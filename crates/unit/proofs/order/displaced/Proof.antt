@@ -2,7 +2,7 @@
 use borrow.Author.Needs.{needs}
 use mathlib.Core.Path.{sym, ap, ap₂, _∙_}
 use mathlib.Core.Bool.{cond, _&&_}
-use Rattle.place.specs.declared.turn.Due.the-variants.{Sessions, Nothing}
+use Rattle.place.specs.declared.turn.Closing.the-variants.{Sessions, Nothing}
 use Rattle.unit.proofs.order.displaced.Statement.{statement}
 use Rattle.unit.proofs.order.displaced.Tie as tie
 

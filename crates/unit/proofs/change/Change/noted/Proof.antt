@@ -1,6 +1,6 @@
 -- No place is set.
 use borrow.Author.Needs.{needs}
-use Rattle.unit.specs.Forms.{noted}
+use Rattle.unit.specs.Changes.{noted}
 use Rattle.unit.proofs.change.Change.noted.Statement.{statement}
 use Rattle.unit.proofs.change.Change.noted.Tie as tie
 

@@ -4,7 +4,7 @@ use mathlib.Core.Path.{sym, _∙_}
 use denote.Ref.{now}
 use lib.ListN.{length, length-map}
 use Rattle.place.specs.Places.{tryLimit}
-use Rattle.record.specs.Refusals.{noRoom, notSound}
+use Rattle.wire.specs.Refusals.{noRoom, notSound}
 use Rattle.unit.specs.Steps.{step}
 use Rattle.unit.proofs.Few.{step-few}
 use Rattle.unit.proofs.OnBytes.{on-room, on-unsound, on-reading, refused-pair, answered-few, answered-pair}

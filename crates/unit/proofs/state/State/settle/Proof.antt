@@ -3,7 +3,7 @@ use borrow.Author.Needs.{needs}
 use mathlib.Core.Path.{refl, sym, _∙_}
 use native.Mathlib.Omega.{arith}
 use lib.ListN.{length-map}
-use Rattle.unit.specs.Forms.{settled}
+use Rattle.unit.specs.Changes.{settled}
 use Rattle.unit.proofs.Settling.{settled-past}
 use Rattle.unit.proofs.state.State.settle.Statement.{statement}
 use Rattle.unit.proofs.state.State.settle.Tie as tie

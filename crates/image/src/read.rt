@@ -1,0 +1,192 @@
+// Reading an image: the state that its bytes stand for, where it is sound and writes these bytes again.
+ghost use mathlib.Core.Path.{_≡_};
+ghost use Prim.Native.Nat.{_<_};
+ghost use mathlib.Core.Bool.{true};
+ghost use lib.ListN.{drop};
+ghost use Rattle.place.specs.Places.{tryLimit};
+ghost use Rattle.unit.specs.States.{sound};
+ghost use Rattle.image.specs.Images.{bodyBytes, phaseOf, directionOf, placeIn};
+ghost use Rattle.image.specs.Images.{stateIn, sameBytes, readRefused, readBody, readImage};
+use crate::layout::IMAGE_KIND;
+use crate::layout::IMAGE_SIZE;
+use crate::write::put_image;
+use place::limits::Limits;
+use place::phase::Phase;
+use place::place::Direction;
+use place::place::Place;
+use record::partner::Partner;
+use unit::start::Started;
+use unit::start::cold_start;
+use unit::state::Marks;
+use unit::state::State;
+use unit::state::Train;
+use wire::byte::byte_at;
+use wire::byte::word;
+use wire::refusal::ACCEPTED;
+use wire::refusal::NOT_SOUND;
+use wire::refusal::UNKNOWN_KIND;
+use wire::refusal::WRONG_LENGTH;
+
+fn phase_of(number: u8, tries: u8) -> Phase
+    ensures { λ r. ⌜ r ≡ phaseOf number tries ⌝ }
+{
+    match number {
+        1 => Phase::Connecting(tries),
+        2 => Phase::Contacting(tries),
+        3 => Phase::Open,
+        4 => Phase::Lost(tries),
+        _ => Phase::Ending(tries),
+    }
+}
+
+fn direction_of(number: u8) -> Direction
+    ensures { λ r. ⌜ r ≡ directionOf number ⌝ }
+{
+    if number == 0 {
+        Direction::Outgoing
+    } else {
+        Direction::Incoming
+    }
+}
+
+// The place that the seven bytes from here on stand for, if any does.
+fn place_at(s: &[u8], at: usize) -> Place
+    requires { ⌜ at < 64 ⌝ }
+    ensures { λ r. ⌜ r ≡ placeIn (drop at (now (s .entry))) ⌝ }
+{
+    let phase = byte_at(s, at);
+    if phase == 0 {
+        return Place::free();
+    }
+    let direction = direction_of(byte_at(s, at + 1));
+    let tries = byte_at(s, at + 2);
+    let partner = Partner {
+        kind: byte_at(s, at + 3),
+        high: byte_at(s, at + 4),
+        middle: byte_at(s, at + 5),
+        low: byte_at(s, at + 6),
+    };
+    Place::held(direction, phase_of(phase, tries), partner)
+}
+
+fn limits_in(s: &[u8]) -> Limits
+    ensures { λ r. ⌜ r ≡ stateIn (now (s .entry)) .limits ⌝ }
+{
+    Limits {
+        lowest: word(byte_at(s, 0)),
+        highest: word(byte_at(s, 1)),
+    }
+}
+
+fn train_in(s: &[u8]) -> Train
+    ensures { λ r. ⌜ r ≡ stateIn (now (s .entry)) .train ⌝ }
+{
+    Train {
+        level: word(byte_at(s, 2)),
+        mission: word(byte_at(s, 3)),
+    }
+}
+
+fn marks_in(s: &[u8]) -> Marks
+    ensures { λ r. ⌜ r ≡ stateIn (now (s .entry)) .marks ⌝ }
+{
+    Marks {
+        inside: byte_at(s, 4) == 1,
+        mode: byte_at(s, 5) == 1,
+        manual: byte_at(s, 6) == 1,
+        end: byte_at(s, 7) == 1,
+    }
+}
+
+// The state that an image's body, its bytes after the kind, stands for, if it stands for any: nothing is tested.
+pub fn state_in(body: &[u8]) -> State
+    ensures { λ r. ⌜ r ≡ stateIn (now (body .entry)) ⌝ }
+{
+    State {
+        limits: limits_in(body),
+        train: train_in(body),
+        marks: marks_in(body),
+        places: [
+            place_at(body, 8),
+            place_at(body, 15),
+            place_at(body, 22),
+            place_at(body, 29),
+        ],
+    }
+}
+
+// Whether two slices hold the same bytes.
+pub fn same(a: &[u8], b: &[u8]) -> bool
+    ensures { λ r. ⌜ r ≡ sameBytes (now (a .entry)) (now (b .entry)) ⌝ }
+{
+    if a.len() == b.len() {
+        let mut i = 0;
+        loop {
+            if i >= a.len() {
+                break true;
+            }
+            if a[i] != b[i] {
+                break false;
+            }
+            i += 1;
+        }
+    } else {
+        false
+    }
+}
+
+fn refused(code: u8) -> Started
+    ensures { λ r. ⌜ r ≡ readRefused code ⌝ }
+{
+    let start = cold_start(Limits {
+        lowest: 0,
+        highest: 0,
+    });
+    let state = start.state;
+    Started { code, state }
+}
+
+// Whether these bytes are the ones that a sound state writes after the kind.
+fn writes(state: State, body: &[u8]) -> bool
+    requires { ⌜ sound tryLimit state ≡ true ⌝ }
+    ensures { λ r. ⌜ r ≡ sameBytes (bodyBytes state) (now (body .entry)) ⌝ }
+{
+    let mut image = [0u8; 37];
+    put_image(&mut image, state);
+    same(&image[1..], body)
+}
+
+// The state of an image's 36 bytes after the kind; refusal 11 where its content is not sound.
+fn read_body(body: &[u8]) -> Started
+    ensures { λ r. ⌜ r ≡ readBody tryLimit (now (body .entry)) ⌝ }
+{
+    let state = state_in(body);
+    if state.is_sound() {
+        if writes(state, body) {
+            Started {
+                code: ACCEPTED,
+                state,
+            }
+        } else {
+            refused(NOT_SOUND)
+        }
+    } else {
+        refused(NOT_SOUND)
+    }
+}
+
+// Reads an image: refusals 1 (empty), 2, 1 (length), 11, the first that applies; a refused read gives the cold state with X from 0 to 0.
+pub fn read_image(bytes: &[u8]) -> Started
+    ensures { λ r. ⌜ r ≡ readImage tryLimit (now (bytes .entry)) ⌝ }
+{
+    if bytes.len() == 0 {
+        return refused(WRONG_LENGTH);
+    }
+    if bytes[0] != IMAGE_KIND {
+        return refused(UNKNOWN_KIND);
+    }
+    if bytes.len() != IMAGE_SIZE {
+        return refused(WRONG_LENGTH);
+    }
+    read_body(&bytes[1..])
+}

@@ -1,0 +1,51 @@
+-- The tries start afresh in another phase.
+-- Proves: turn-fresh.
+use mathlib.Core.Path.{_≡_, refl}
+use mathlib.Core.Bool.{true}
+use Prim.Native.Nat.{ℕ, _+_}
+use lib.Dec.{ltb}
+use borrow.Author.Tests.{eq-eqb}
+use Rattle.record.specs.declared.event.PartnerEvent.{PartnerEvent}
+use Rattle.wire.proofs.Tests.{cond-holds, All}
+use Rattle.place.specs.Places.{tries}
+use Rattle.place.specs.Table.{table, oneMore, again, play, turn}
+use Rattle.place.specs.declared.phase.Phase.{Phase}
+use Rattle.place.specs.declared.phase.Phase.the-variants.{Connecting, Contacting, Open, Lost, Ending}
+use Rattle.place.specs.declared.limits.Limits.{Limits}
+use Rattle.place.specs.declared.turn.Turn.{Turn}
+use Rattle.place.specs.declared.turn.Turn.the-variants.{Released, Sends}
+use Rattle.place.proofs.ByRow.{by-row, judged-case}
+use Rattle.place.specs.Turns.{onNext, fresh}
+
+abbrev NextFresh : Phase → Turn → Type 0
+NextFresh ph = onNext (λ q. fresh ph q ≡ true)
+
+again-fresh : (n number : ℕ) (ph : Phase) → fresh ph (oneMore ph) ≡ true → NextFresh ph (again n number ph)
+again-fresh n number ph h = cond-holds (NextFresh ph) (ltb (tries ph) n) (Sends number (oneMore ph)) Released h tt
+
+row-fresh : (n : ℕ) (l : Limits) (ph : Phase) (v : ℕ) → All (λ c. NextFresh ph (play n l ph v c)) (table ph)
+row-fresh n l (Connecting t) v =
+    (tt, (refl, (tt, (again-fresh n _ (Connecting t) (eq-eqb (t + 1) (t + 1) refl), (tt, (tt, tt))))))
+row-fresh n l (Contacting t) v = (
+  tt,
+  (
+    tt,
+    (
+      tt,
+      (
+        again-fresh n _ (Contacting t) (eq-eqb (t + 1) (t + 1) refl),
+        (judged-case (NextFresh (Contacting t)) l v refl refl, (tt, tt)),
+      ),
+    ),
+  ),
+)
+row-fresh n l Open v = (refl, (tt, (refl, (tt, (tt, (tt, tt))))))
+row-fresh n l (Lost t) v =
+    (tt, (refl, (tt, (again-fresh n _ (Lost t) (eq-eqb (t + 1) (t + 1) refl), (tt, (tt, tt))))))
+row-fresh n l (Ending t) v =
+    (tt, (tt, (tt, (again-fresh n _ (Ending t) (eq-eqb (t + 1) (t + 1) refl), (tt, (tt, tt))))))
+
+-- no turn carries the old phase's tries into another phase
+-- promise
+pub turn-fresh : (n : ℕ) (l : Limits) (ph : Phase) (e : PartnerEvent) → onNext (λ q. fresh ph q ≡ true) (turn n l ph e)
+turn-fresh n l = by-row NextFresh n l (row-fresh n l) (λ ph. tt)

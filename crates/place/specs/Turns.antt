@@ -1,0 +1,51 @@
+-- What the promises on a turn of a place speak of.
+-- Defines: ownNumbers, onNext, firstTries, fresh, NextSound, SeatOf.
+use Rattle.record.specs.declared.partner.Partner.{Partner}
+use Rattle.place.specs.declared.phase.Phase.{Phase}
+use Rattle.place.specs.declared.phase.Phase.the-variants.{Connecting, Contacting, Open, Lost, Ending}
+use Rattle.place.specs.declared.place.Direction.{Direction}
+use Rattle.place.specs.declared.place.Holding.{Holding}
+use Rattle.place.specs.declared.place.Holding.the-variants.{Free, Held}
+use Rattle.place.specs.declared.turn.Turn.{Turn}
+use Rattle.place.specs.declared.turn.Turn.the-variants.{Stays, Released, Becomes, Sends, SendsBoth}
+use Prim.Native.Nat.{ℕ, _+_}
+use mathlib.Core.Bool.{Bool, true, cond, _&&_, _||_}
+use mathlib.Core.Path.{_≡_}
+use mathlib.Core.List.{List, [], _∷_}
+use lib.Dec.{eqb}
+use Rattle.place.specs.Places.{phaseNumber, tries, phaseOk, fitsIncoming}
+use Rattle.place.specs.Table.{request, release}
+
+-- "Of our own numbering: 21 request connection, 22 release": none of the messages 154, 155, 156, 159
+abbrev pub ownNumbers : List ℕ → Bool
+ownNumbers [] = true
+ownNumbers (number ∷ rest) = (eqb number request || eqb number release) && ownNumbers rest
+
+-- what is asked of the phase that a turn leads to, if it leads to one
+abbrev pub onNext : (Phase → Type 0) → Turn → Type 0
+onNext P Stays = Unit
+onNext P Released = Unit
+onNext P (Becomes q) = P q
+onNext P (Sends number q) = P q
+onNext P (SendsBoth first second q) = P q
+
+-- the tries at which a phase is entered
+abbrev pub firstTries : Phase → ℕ
+firstTries (Connecting t) = 1
+firstTries (Contacting t) = 1
+firstTries Open = 0
+firstTries (Lost t) = 1
+firstTries (Ending t) = 1
+
+-- one more try in the same phase, or the first of another
+abbrev pub fresh : Phase → Phase → Bool
+fresh ph q = cond (eqb (phaseNumber ph) (phaseNumber q)) (eqb (tries q) (tries ph + 1)) (eqb (tries q) (firstTries q))
+
+-- the next phase is sound, and fit for an incoming place where the phase was
+abbrev pub NextSound : ℕ → Phase → Turn → Type 0
+NextSound n ph = onNext (λ q. (phaseOk n q ≡ true) × (fitsIncoming ph ≡ true → fitsIncoming q ≡ true))
+
+-- free, or held by this partner in this direction
+abbrev pub SeatOf : Direction → Partner → Holding → Type 0
+SeatOf d p Free = Unit
+SeatOf d p (Held e ph q) = (e ≡ d) × (q ≡ p)

@@ -1,0 +1,229 @@
+// Places: free, or a partner with its direction and phase.
+ghost use mathlib.Core.Path.{_≡_};
+ghost use Rattle.place.specs.Places.{directionNumber, tryLimit, vacant, seat, isFree, partnerOf, holds, fits, placeOk};
+ghost use Rattle.place.specs.Table.{inPhase, placeAfter, placeTurn, closes, closedBy};
+use crate::limits::Limits;
+use crate::phase::Phase;
+use crate::turn::Closing;
+use crate::turn::Turn;
+use record::event::PartnerEvent;
+use record::partner::Partner;
+use wire::join::and;
+
+// Who made the connection: the box, or the partner by a call.
+pub enum Direction {
+    Outgoing,
+    Incoming,
+}
+
+// Free, or a partner with its direction and phase.
+pub enum Holding {
+    Free,
+    Held {
+        direction: Direction,
+        phase: Phase,
+        partner: Partner,
+    },
+}
+
+// One of the four places.
+pub struct Place {
+    pub holding: Holding,
+}
+
+impl Direction {
+    // Its number: 0 outgoing, 1 incoming.
+    pub fn number(self) -> u8
+        ensures { λ r. ⌜ r ≡ directionNumber self ⌝ }
+    {
+        match self {
+            Direction::Outgoing => 0,
+            Direction::Incoming => 1,
+        }
+    }
+
+    // Whether a place with this phase and partner may have it.
+    fn fits(self, phase: Phase, partner: Partner) -> bool
+        ensures { λ r. ⌜ r ≡ fits self phase partner ⌝ }
+    {
+        match self {
+            Direction::Outgoing => true,
+            Direction::Incoming => and(partner.is_rbc(), phase.fits_incoming()),
+        }
+    }
+}
+
+impl Closing {
+    // Whether a place with this phase and partner is to be closed.
+    fn closes(self, phase: Phase, partner: Partner) -> bool
+        ensures { λ r. ⌜ r ≡ closes self phase partner ⌝ }
+    {
+        match self {
+            Closing::Every => phase.not_ending(),
+            Closing::Sessions => and(partner.is_rbc(), phase.in_session()),
+            Closing::Nothing => false,
+        }
+    }
+}
+
+impl Place {
+    // A free place.
+    pub fn free() -> Place
+        ensures { λ r. ⌜ r ≡ vacant ⌝ }
+    {
+        Place {
+            holding: Holding::Free,
+        }
+    }
+
+    // A place that holds this partner.
+    pub fn held(direction: Direction, phase: Phase, partner: Partner) -> Place
+        ensures { λ r. ⌜ r ≡ seat direction phase partner ⌝ }
+    {
+        Place {
+            holding: Holding::Held {
+                direction,
+                phase,
+                partner,
+            },
+        }
+    }
+
+    // Whether it is free.
+    pub fn is_free(self) -> bool
+        ensures { λ r. ⌜ r ≡ isFree self ⌝ }
+    {
+        let holding = self.holding;
+        match holding {
+            Holding::Free => true,
+            Holding::Held {
+                direction: _,
+                phase: _,
+                partner: _,
+            } => false,
+        }
+    }
+
+    // The partner that it holds; all zeros where it is free.
+    pub fn partner(self) -> Partner
+        ensures { λ r. ⌜ r ≡ partnerOf self ⌝ }
+    {
+        let holding = self.holding;
+        match holding {
+            Holding::Free => Partner {
+                kind: 0,
+                high: 0,
+                middle: 0,
+                low: 0,
+            },
+            Holding::Held {
+                direction: _,
+                phase: _,
+                partner,
+            } => partner,
+        }
+    }
+
+    // Whether it holds this partner.
+    pub fn holds(self, partner: Partner) -> bool
+        ensures { λ r. ⌜ r ≡ holds partner self ⌝ }
+    {
+        let holding = self.holding;
+        match holding {
+            Holding::Free => false,
+            Holding::Held {
+                direction: _,
+                phase: _,
+                partner: other,
+            } => partner.same(other),
+        }
+    }
+
+    // Whether it is sound by itself.
+    pub fn is_sound(self) -> bool
+        ensures { λ r. ⌜ r ≡ placeOk tryLimit self ⌝ }
+    {
+        let holding = self.holding;
+        match holding {
+            Holding::Free => true,
+            Holding::Held {
+                direction,
+                phase,
+                partner,
+            } => {
+                and(
+                    partner.in_range(),
+                    and(phase.in_range(), direction.fits(phase, partner)),
+                )
+            }
+        }
+    }
+
+    // What an event that names its partner makes of it; a free place refuses.
+    pub fn turn(self, event: PartnerEvent, limits: Limits) -> Turn
+        ensures { λ r. ⌜ r ≡ placeTurn tryLimit limits self event ⌝ }
+    {
+        let holding = self.holding;
+        match holding {
+            Holding::Free => Turn::Stays,
+            Holding::Held {
+                direction: _,
+                phase,
+                partner: _,
+            } => phase.turn(event, limits),
+        }
+    }
+
+    // What a closing makes of it; a place that is not due refuses.
+    pub fn closed_by(self, which: Closing) -> Turn
+        ensures { λ r. ⌜ r ≡ closedBy which self ⌝ }
+    {
+        let holding = self.holding;
+        match holding {
+            Holding::Free => Turn::Stays,
+            Holding::Held {
+                direction: _,
+                phase,
+                partner,
+            } => {
+                if which.closes(phase, partner) {
+                    phase.closing()
+                } else {
+                    Turn::Stays
+                }
+            }
+        }
+    }
+
+    // The same place in another phase; a free one stays free.
+    fn in_phase(self, next: Phase) -> Place
+        ensures { λ r. ⌜ r ≡ inPhase (self .holding) next ⌝ }
+    {
+        let holding = self.holding;
+        match holding {
+            Holding::Free => Place::free(),
+            Holding::Held {
+                direction,
+                phase: _,
+                partner,
+            } => Place::held(direction, next, partner),
+        }
+    }
+
+    // The place after a turn; its direction and partner stay while it is held.
+    pub fn after(self, turn: Turn) -> Place
+        ensures { λ r. ⌜ r ≡ placeAfter self turn ⌝ }
+    {
+        match turn {
+            Turn::Stays => self,
+            Turn::Released => Place::free(),
+            Turn::Becomes(next) => self.in_phase(next),
+            Turn::Sends { number: _, phase } => self.in_phase(phase),
+            Turn::SendsBoth {
+                first: _,
+                second: _,
+                phase,
+            } => self.in_phase(phase),
+        }
+    }
+}

@@ -1,0 +1,122 @@
+-- What an end all leaves, and which place an order takes.
+-- Proves: closed-done, end-all-closes, mission-closes, order-place.
+use mathlib.Core.Path.{_≡_, refl, sym, ap, subst, _∙_}
+use mathlib.Core.Bool.{Bool, true, false, _&&_}
+use mathlib.Core.List.{List, [], _∷_}
+use Prim.Native.Nat.{ℕ, zero, suc}
+use native.Mathlib.Omega.{arith}
+use lib.Dec.{eqb}
+use lib.ListN.{getD}
+use lib.Seq.{getD-set-other}
+use borrow.Author.Tests.{eqb-true, eqb-false}
+use Rattle.record.specs.Partners.{isRbc}
+use Rattle.record.specs.Records.{missionEnded}
+use Rattle.wire.specs.Refusals as refusal
+use Rattle.record.specs.declared.partner.Partner.{Partner}
+use Rattle.record.specs.declared.event.Cause.{Cause}
+use Rattle.record.specs.declared.event.Event.the-variants.{Mission, Order, EndAll}
+use Rattle.wire.proofs.Tests.{cond-case}
+use Rattle.place.specs.Places.{vacant, seat, isFree, holds}
+use Rattle.place.specs.Table.{firstTry, closing, closes, placeAfter, closedBy}
+use Rattle.place.proofs.Holdings.{holdingClosedBy}
+use Rattle.place.specs.declared.phase.Phase.{Phase}
+use Rattle.place.specs.declared.phase.Phase.the-variants.{Connecting, Contacting, Open, Lost, Ending}
+use Rattle.place.specs.declared.place.Direction.{Direction}
+use Rattle.place.specs.declared.place.Direction.the-variants.{Outgoing}
+use Rattle.place.specs.declared.place.Holding.{Holding}
+use Rattle.place.specs.declared.place.Holding.the-variants.{Free, Held}
+use Rattle.place.specs.declared.place.Place.{Place}
+use Rattle.place.specs.declared.turn.Turn.the-variants.{Stays}
+use Rattle.place.specs.declared.turn.Closing.{Closing}
+use Rattle.place.specs.declared.turn.Closing.the-variants.{Every, Sessions, Nothing}
+use Rattle.unit.specs.States.{seek}
+use Rattle.unit.specs.Steps.{refused, inForce, closed, displaced, orderedAt, step}
+use Rattle.unit.specs.declared.state.State.{State}
+use Rattle.unit.specs.declared.search.Found.{Found}
+use Rattle.unit.specs.declared.search.Found.the-variants.{At, Vacant, Full}
+use Rattle.unit.specs.Kept.{here, once, weigh, isClosedBy, WasFree}
+use Rattle.unit.proofs.Searches.{FoundOk, seek-ok}
+use Rattle.unit.proofs.Facts.{closed-here}
+
+and-false : (b : Bool) → (b && false) ≡ false
+and-false true = refl
+and-false false = refl
+
+ending-not-closed : (which : Closing) (t : ℕ) (p : Partner) → closes which (Ending t) p ≡ false
+ending-not-closed Every t p = refl
+ending-not-closed Sessions t p = and-false (isRbc p)
+ending-not-closed Nothing t p = refl
+
+-- what is closed is free or Ending
+closed-once : (which : Closing) (d : Direction) (ph : Phase) (p : Partner)
+    → isClosedBy which (placeAfter (seat d ph p) (closing ph)) ≡ false
+closed-once which d (Connecting t) p = refl
+closed-once which d (Contacting t) p = refl
+closed-once which d Open p = ending-not-closed which firstTry p
+closed-once which d (Lost t) p = refl
+closed-once which d (Ending t) p = ending-not-closed which t p
+
+closedBy-one : (which : Closing) (k : Holding)
+    → isClosedBy which (placeAfter (record { holding = k }) (holdingClosedBy which k)) ≡ false
+closedBy-one which Free = refl
+closedBy-one which (Held d ph p) =
+    cond-case (λ t. isClosedBy which (placeAfter (seat d ph p) t) ≡ false) (closes which ph p) (closing ph) Stays
+    (λ is-closed. closed-once which d ph p)
+    (λ not-closed. not-closed)
+
+-- after a closing no place is left that it was for
+pub closed-done : (which : Closing) (ps : List Place) → weigh (here (isClosedBy which)) (closed which ps) ≡ 0
+unfolding weigh closed
+closed-done which [] = refl
+closed-done which (p ∷ ps) =
+    let first : here (isClosedBy which) (placeAfter p (closedBy which p)) ≡ 0 = ap once (closedBy-one which (p .holding)) in
+    let rest = closed-done which ps in
+    omega arith
+
+-- "End all: closes every place .. that is not Ending"; mission "0 also ends all"
+-- promise
+pub end-all-closes : (n : ℕ) (s : State) → weigh (here (isClosedBy Every)) (step n s EndAll .state .places) ≡ 0
+unfolding step
+end-all-closes n s = closed-done Every (s .places)
+
+-- promise
+pub mission-closes : (n : ℕ) (s : State) → weigh (here (isClosedBy Every)) (step n s (Mission missionEnded) .state .places) ≡ 0
+unfolding step
+mission-closes n s = closed-done Every (s .places)
+
+-- a partner without a place stands at no number
+absent : (p : Partner) (ps : List Place) (i : ℕ) → weigh (here (holds p)) ps ≡ 0 → holds p (getD ps i vacant) ≡ true → ⊥
+unfolding weigh
+absent p [] i none held =
+    let wrong : once false ≡ once true = ap once held in
+    omega arith
+absent p (q ∷ ps) zero none held =
+    let one : here (holds p) q ≡ 1 = ap once held in
+    omega arith
+absent p (q ∷ ps) (suc i) none held = absent p ps i (omega arith) held
+
+module _ (s : State) (p : Partner) where
+  ordered-place : (accepting : Bool) (cause : Cause) (found : Found)
+      → FoundOk p (s .places) found
+      → WasFree s p (orderedAt s p accepting cause found)
+  ordered-place accepting cause (At j) ok h i held = absurd (omega arith)
+  ordered-place accepting cause (Vacant j) ok h i held =
+      let which = displaced p accepting in
+      let none = closed-here which (s .places) p in
+      cond-case {A = ℕ} (λ k. isFree (getD (s .places) i vacant) ≡ true) (eqb i j) 0 0
+      (λ same. subst (λ k. isFree (getD (s .places) k vacant) ≡ true) (sym (eqb-true i j same)) (ok .1))
+      (λ other.
+      absurd
+      (absent p (closed which (s .places)) i (omega (arith, ok .2))
+      (sym (ap (holds p) (getD-set-other (closed which (s .places)) j i (seat Outgoing (Connecting firstTry) p) vacant (eqb-false i j other)))
+      ∙ held)))
+  ordered-place accepting cause Full ok h i held = absurd (omega arith)
+
+  -- "A place freed by this same order is not counted as free for it"
+  -- promise
+  pub order-place : (n : ℕ) (accepting : Bool) (cause : Cause) → WasFree s p (step n s (Order p accepting cause))
+  unfolding step
+  order-place n accepting cause =
+      cond-case (WasFree s p) (inForce cause (s .train) (s .marks)) (orderedAt s p accepting cause (seek p (s .places))) (refused refusal.notInForce s)
+      (λ in-force. ordered-place accepting cause (seek p (s .places)) (seek-ok p (s .places)))
+      (λ not-in-force h. absurd (omega arith))

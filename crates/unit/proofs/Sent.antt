@@ -1,0 +1,159 @@
+-- What a step sends to any choice of partners, `mine`, for crates that stand on it without its definition.
+-- Defines: Conserved, mostFor, Ordered, Ends.
+-- Proves: step-releases, onRecord-releases, step-most, onRecord-most, step-ends, onRecord-ends.
+use mathlib.Core.Path.{_≡_, refl, ap, _∙_}
+use mathlib.Core.Bool.{Bool, true, false, cond, _&&_}
+use mathlib.Core.List.{List, [], _∷_, _++_, map}
+use Prim.Native.Nat.{ℕ, _+_, _≤_}
+use native.Mathlib.Omega.{arith}
+use lib.Dec.{eqb}
+use lib.ListN.{length, getD}
+use Rattle.record.specs.Partners.{samePartner}
+use Rattle.record.specs.Records.{reading}
+use Rattle.wire.specs.Refusals as refusal
+use Rattle.record.specs.declared.partner.Partner.{Partner}
+use Rattle.record.specs.declared.event.Event.{Event}
+use Rattle.wire.proofs.Tests.{cond-holds}
+use Rattle.place.specs.Places.{vacant}
+use Rattle.place.specs.Table.{request, closing, closes, numbers, placeTurn}
+use Rattle.place.proofs.Holdings.{holdingClosedBy}
+use Rattle.place.specs.declared.place.Holding.{Holding}
+use Rattle.place.specs.declared.place.Holding.the-variants.{Free, Held}
+use Rattle.place.specs.declared.place.Place.{Place}
+use Rattle.place.specs.declared.turn.Turn.the-variants.{Stays}
+use Rattle.place.specs.declared.turn.Closing.{Closing}
+use Rattle.place.specs.declared.turn.Closing.the-variants.{Every}
+use Rattle.place.proofs.Turns.{turn-few}
+use Rattle.unit.specs.Steps.{Outcome, refused, act, actionsIn, closingActions, step}
+use Rattle.unit.specs.Concerns.{Concern, nobody, orderTo, callOf, naming, concern, concernOf, takesIn, actionFor, releaseFor, heldBy, placeOf}
+use Rattle.unit.specs.Kept.{count, here, once, weigh}
+use Rattle.unit.specs.OnRecords.{onRecord}
+use Rattle.unit.specs.declared.state.State.{State}
+use Rattle.unit.specs.declared.search.Found.the-variants.{Vacant}
+use Rattle.unit.specs.declared.answer.Action.{Action}
+use Rattle.unit.proofs.Shapes.{RecordRefusal, Shape, refuses, notes, closesEvery, orders, calls, turns, shape, by-concern}
+use Rattle.unit.proofs.Counts.{count-append, count-one, closingActions-most}
+use Rattle.unit.proofs.Searches.{found-ok}
+use Rattle.unit.proofs.Few.{closing-few}
+use Rattle.unit.proofs.Balances.{exactly}
+use Rattle.unit.proofs.StepAccounts.{broughtTo, Account, refused-account, step-account}
+use Rattle.unit.proofs.Seats.{seats, seats-balanced, seats-weigh, seats-brought, own-places}
+
+-- the releases of these partners and the places that they have are the places that they had, and one more where one is taken in
+abbrev pub Conserved : (Partner → Bool) → State → Concern → Outcome → Type 0
+Conserved mine s c o =
+    count (releaseFor mine) (o .actions) + weigh (here (placeOf mine)) (o .state .places)
+    ≡ weigh (here (placeOf mine)) (s .places) + once (eqb (o .code) refusal.accepted && takesIn mine c)
+
+-- the most actions for these partners in a step: one for each place of theirs that may be closed, the order's own; the call's own; two
+abbrev pub mostFor : (Partner → Bool) → List Place → Concern → ℕ
+mostFor mine ps nobody = weigh (here (placeOf mine)) ps
+mostFor mine ps (orderTo p) = weigh (here (placeOf mine)) ps + once (mine p)
+mostFor mine ps (callOf p) = once (mine p)
+mostFor mine ps (naming p e) = cond (mine p) 2 0
+
+-- less of one partner's actions is less where that partner is looked at
+cond-most : (b : Bool) (k m : ℕ) → k ≤ m → cond b k 0 ≤ cond b m 0
+cond-most true k m h = h
+cond-most false k m h = omega arith
+
+module _ (n : ℕ) (s : State) (mine : Partner → Bool) where
+  conserved : (c : Concern) (o : Outcome) → Account exactly seats mine s (broughtTo seats mine c) o → Conserved mine s c o
+  conserved c o account =
+      let ok = eqb (o .code) refusal.accepted in
+      let before = seats-weigh mine (s .places) in
+      let after = seats-weigh mine (o .state .places) in
+      let brought = ap (λ b. cond ok b 0) (seats-brought mine c) ∙ by ok (takesIn mine c) in
+      omega arith
+    where
+      by : (a b : Bool) → cond a (once b) 0 ≡ once (a && b)
+      by true b = refl
+      by false b = refl
+
+  -- the account of releases
+  pub step-releases : (e : Event) → Conserved mine s (concern e) (step n s e)
+  step-releases e = conserved (concern e) (step n s e) (step-account exactly n seats (seats-balanced n) mine s e)
+
+  pub onRecord-releases : (bytes : List ℕ) (room : ℕ) → Conserved mine s (concernOf (reading bytes)) (onRecord n s bytes room)
+  onRecord-releases bytes room =
+      by-concern n s (Conserved mine s) bytes room
+      (λ c r may. conserved c (refused r s) (refused-account exactly n seats (seats-balanced n) mine s _ r (λ none. omega arith)))
+      step-releases
+
+  -- a closing has at most one action for each place of theirs
+  closedBy-for : (which : Closing) (k : Holding) → count (actionFor mine) (actionsIn k (holdingClosedBy which k)) ≤ once (heldBy mine k)
+  unfolding count
+  closedBy-for which Free = omega arith
+  closedBy-for which (Held d ph p) =
+      cond-holds (λ t. count (actionFor mine) (map (act p) (numbers t)) ≤ once (mine p)) (closes which ph p) (closing ph) Stays
+      (rw (count-one mine p (numbers (closing ph))) (cond-most (mine p) (length (numbers (closing ph))) 1 (closing-few ph)))
+      (omega arith)
+
+  closingActions-for : (which : Closing) → count (actionFor mine) (closingActions which (s .places)) ≤ weigh (here (placeOf mine)) (s .places)
+  closingActions-for which =
+      closingActions-most (actionFor mine) (here (placeOf mine)) which (λ place. closedBy-for which (place .holding)) (s .places)
+
+  most : {e : Event} {c : Concern} {o : Outcome} → Shape n s e c o → count (actionFor mine) (o .actions) ≤ mostFor mine (s .places) c
+  unfolding count
+  most (refuses r may) = omega arith
+  most (notes t m within) = omega arith
+  most (closesEvery t within) = closingActions-for Every
+  most (orders p which m i within ok found) =
+      let closings = closingActions-for which in
+      let joined = count-append (actionFor mine) (closingActions which (s .places)) (act p request ∷ []) in
+      omega arith
+  most (calls p i ok rbc found) = omega arith
+  most (turns p event i found taken) =
+      let t = placeTurn n (s .limits) (getD (s .places) i vacant) event in
+      rw (count-one mine p (numbers t)) (cond-most (mine p) (length (numbers t)) 2 (turn-few t))
+
+  -- how many actions a step has for them
+  pub step-most : (e : Event) → count (actionFor mine) (step n s e .actions) ≤ mostFor mine (s .places) (concern e)
+  step-most e = most (shape n s e)
+
+  pub onRecord-most : (bytes : List ℕ) (room : ℕ)
+      → count (actionFor mine) (onRecord n s bytes room .actions) ≤ mostFor mine (s .places) (concernOf (reading bytes))
+  unfolding count
+  onRecord-most bytes room =
+      by-concern n s (λ c o. count (actionFor mine) (o .actions) ≤ mostFor mine (s .places) c) bytes room
+      (λ c r may. omega arith)
+      step-most
+
+-- the actions of an accepted order: its 21 for the partner last, and none for that partner before
+pub record Ordered (p : Partner) (acts : List Action) : Type 0 where
+  pub closings : List Action
+  pub last : acts ≡ closings ++ (act p request ∷ [])
+  pub others : count (actionFor (samePartner p)) closings ≡ 0
+
+-- an order that is accepted has such actions
+abbrev pub Ends : Concern → Outcome → Type 0
+Ends nobody o = Unit
+Ends (orderTo p) o = o .code ≡ refusal.accepted → Ordered p (o .actions)
+Ends (callOf p) o = Unit
+Ends (naming p e) o = Unit
+
+module _ (n : ℕ) (s : State) where
+  refused-ends : (c : Concern) (r : ℕ) → RecordRefusal r → Ends c (refused r s)
+  refused-ends nobody r may = tt
+  refused-ends (orderTo p) r may = λ accepted. absurd (omega arith)
+  refused-ends (callOf p) r may = tt
+  refused-ends (naming p e) r may = tt
+
+  ends : {e : Event} {c : Concern} {o : Outcome} → Shape n s e c o → Ends c o
+  ends (refuses {c = c} r may) = refused-ends c r (omega arith)
+  ends (notes t m within) = tt
+  ends (closesEvery t within) = tt
+  ends (orders p which m i within ok found) =
+      let absent = found-ok p (s .places) (Vacant i) found .2 in
+      let own = own-places p (s .places) in
+      let few = closingActions-for n s (samePartner p) which in
+      λ accepted. record { closings = closingActions which (s .places); last = refl; others = omega arith }
+  ends (calls p i ok rbc found) = tt
+  ends (turns p event i found taken) = tt
+
+  -- how an accepted order ends
+  pub step-ends : (e : Event) → Ends (concern e) (step n s e)
+  step-ends e = ends (shape n s e)
+
+  pub onRecord-ends : (bytes : List ℕ) (room : ℕ) → Ends (concernOf (reading bytes)) (onRecord n s bytes room)
+  onRecord-ends bytes room = by-concern n s Ends bytes room refused-ends step-ends

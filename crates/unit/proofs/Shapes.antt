@@ -1,0 +1,189 @@
+-- A law of every step is one of each shape that a step's outcome can have, and one of every record is one of every refusal and of
+-- every step.
+-- Defines: StepRefusal, RecordRefusal, InRange, Shape.
+-- Proves: shape, on-record, by-concern.
+use mathlib.Core.Path.{_≡_, refl}
+use mathlib.Core.Bool.{Bool, true, false, _&&_, not}
+use mathlib.Core.List.{List, []}
+use Prim.Native.Nat.{ℕ, _≤_}
+use native.Mathlib.Omega.{arith}
+use lib.Dec.{leb, eqb}
+use lib.ListN.{getD}
+use borrow.Author.Tests.{leb-true}
+use Rattle.record.specs.Partners.{isRbc, partnerOk}
+use Rattle.record.specs.Records.{eventOk, highestLevel, missionUnderWay, missionEnded, reading, readingOk}
+use Rattle.wire.specs.Refusals as refusal
+use Rattle.record.specs.declared.partner.Partner.{Partner}
+use Rattle.record.specs.declared.event.Cause.{Cause}
+use Rattle.record.specs.declared.event.Cause.the-variants.{StartOfMission, Trackside, ModeChange, ManualLevel, HoleEnd}
+use Rattle.record.specs.declared.event.PartnerEvent.{PartnerEvent}
+use Rattle.record.specs.declared.event.Event.{Event}
+use Rattle.record.specs.declared.event.Event.the-variants.{Level, Mission, Mode, Hole, Order, EndAll, Call, Named}
+use Rattle.record.specs.declared.event.Reading.{Reading}
+use Rattle.record.specs.declared.event.Reading.the-variants.{Meant, Refused}
+use Rattle.wire.proofs.Tests.{and-left, and-right, and-both, cond-case}
+use Rattle.record.proofs.Ranges.{reading-ok}
+use Rattle.place.specs.Places.{vacant}
+use Rattle.place.specs.Table.{placeTurn, takes}
+use Rattle.place.specs.declared.turn.Closing.{Closing}
+use Rattle.place.specs.declared.turn.Closing.the-variants.{Every}
+use Rattle.unit.specs.States.{seek, trainOk, marksOk, sound}
+use Rattle.unit.specs.Steps.{Outcome, refused, done, withTrain, withMarks, markHole, holeTaken, inForce, spend, displaced, closePlaces, takenIn, orderedAt, calledAt, turnedAt, namedAt, step}
+use Rattle.unit.specs.Concerns.{Concern, nobody, orderTo, callOf, naming, concern, concernOf}
+use Rattle.unit.specs.OnRecords.{actionRoom, onReading, onRecord}
+use Rattle.unit.specs.declared.state.Train.{Train}
+use Rattle.unit.specs.declared.state.Marks.{Marks}
+use Rattle.unit.specs.declared.state.State.{State}
+use Rattle.unit.specs.declared.search.Found.{Found}
+use Rattle.unit.specs.declared.search.Found.the-variants.{At, Vacant, Full}
+
+-- the numbers with which a step on an event may be refused, 4 to 9
+abbrev pub StepRefusal : ℕ → Type 0
+StepRefusal r = (refusal.notInForce ≤ r) × (r ≤ refusal.callFromRiu)
+
+-- the numbers with which a step on a record may be refused, 1 to 11
+abbrev pub RecordRefusal : ℕ → Type 0
+RecordRefusal r = (refusal.wrongLength ≤ r) × (r ≤ refusal.notSound)
+
+-- a train and marks that are in their ranges where those of the state and the fields of the event are
+abbrev pub InRange : State → Event → Train → Marks → Type 0
+InRange s e t m =
+    trainOk (s .train) ≡ true
+    → marksOk (s .marks) ≡ true
+    → eventOk e ≡ true
+    → (trainOk t ≡ true) × (marksOk m ≡ true)
+
+-- the shapes of a step's outcome, by whom its event concerns
+pub data Shape (n : ℕ) (s : State) (e : Event) : Concern → Outcome → Type 0 where
+  -- "A refused step .. returns its number, the state as given, counts 0"
+  refuses : {c : Concern} (r : ℕ)
+      → StepRefusal r
+      → Shape n s e c (refused r s)
+  -- train and marks noted
+  notes : (t : Train) (m : Marks)
+      → InRange s e t m
+      → Shape n s e nobody (done (withMarks (withTrain s t) m) [])
+  -- every place closed that is not Ending
+  closesEvery : (t : Train)
+      → InRange s e t (s .marks)
+      → Shape n s e nobody (closePlaces Every (withTrain s t))
+  -- a partner taken in after a closing, at the place that was free before it
+  orders : (p : Partner) (which : Closing) (m : Marks) (i : ℕ)
+      → InRange s e (s .train) m
+      → (eventOk e ≡ true → partnerOk p ≡ true)
+      → seek p (s .places) ≡ Vacant i
+      → Shape n s e (orderTo p) (takenIn (closePlaces which (withMarks s m)) i p)
+  -- an RBC that calls taken in
+  calls : (p : Partner) (i : ℕ)
+      → (eventOk e ≡ true → partnerOk p ≡ true)
+      → isRbc p ≡ true
+      → seek p (s .places) ≡ Vacant i
+      → Shape n s e (callOf p) (calledAt s p (Vacant i))
+  -- a turn of the place that a partner has
+  turns : (p : Partner) (event : PartnerEvent) (i : ℕ)
+      → seek p (s .places) ≡ At i
+      → takes (placeTurn n (s .limits) (getD (s .places) i vacant) event) ≡ true
+      → Shape n s e (naming p event) (turnedAt s i p (placeTurn n (s .limits) (getD (s .places) i vacant) event))
+
+-- "'inside a hole' and 'hole end' are not both 1", after an order's mark is cleared and after a hole
+spend-marks : (cause : Cause) (m : Marks) → marksOk m ≡ true → marksOk (spend cause m) ≡ true
+spend-marks StartOfMission m ok = ok
+spend-marks Trackside m ok = ok
+spend-marks ModeChange m ok = ok
+spend-marks ManualLevel m ok = ok
+spend-marks HoleEnd m ok = by (m .inside)
+  where
+    by : (b : Bool) → not (b && false) ≡ true
+    by true = refl
+    by false = refl
+
+hole-marks : (entered : Bool) → not (entered && not entered) ≡ true
+hole-marks true = refl
+hole-marks false = refl
+
+module _ (n : ℕ) (s : State) where
+  ordered-shape : (p : Partner) (accepting : Bool) (cause : Cause) (found : Found)
+      → seek p (s .places) ≡ found
+      → Shape n s (Order p accepting cause) (orderTo p) (orderedAt s p accepting cause found)
+  ordered-shape p accepting cause (At i) found = refuses refusal.hasPlace (omega arith)
+  ordered-shape p accepting cause (Vacant i) found =
+      orders p (displaced p accepting) (spend cause (s .marks)) i
+      (λ train marks ok. (train, spend-marks cause (s .marks) marks))
+      (λ ok. ok)
+      found
+  ordered-shape p accepting cause Full found = refuses refusal.allTaken (omega arith)
+
+  called-shape : (p : Partner) → isRbc p ≡ true → (found : Found)
+      → seek p (s .places) ≡ found
+      → Shape n s (Call p) (callOf p) (calledAt s p found)
+  called-shape p rbc (At i) found = refuses refusal.hasPlace (omega arith)
+  called-shape p rbc (Vacant i) found = calls p i (λ ok. ok) rbc found
+  called-shape p rbc Full found = refuses refusal.allTaken (omega arith)
+
+  named-shape : (p : Partner) (e : PartnerEvent) (found : Found)
+      → seek p (s .places) ≡ found
+      → Shape n s (Named p e) (naming p e) (namedAt n s p e found)
+  named-shape p e (At i) found =
+      let t = placeTurn n (s .limits) (getD (s .places) i vacant) e in
+      cond-case (Shape n s (Named p e) (naming p e)) (takes t) _ _
+      (λ taken. turns p e i found taken)
+      (λ other. refuses refusal.notTaken (omega arith))
+  named-shape p e (Vacant i) found = refuses refusal.hasNone (omega arith)
+  named-shape p e Full found = refuses refusal.hasNone (omega arith)
+
+  -- every step has one of the shapes
+  pub shape : (e : Event) → Shape n s e (concern e) (step n s e)
+  unfolding step
+  shape (Level level manual) =
+      notes (record { level = level; mission = s .train .mission }) _
+      (λ train marks ok. (and-both (leb level highestLevel) _ ok (and-right (leb (s .train .level) highestLevel) _ train), marks))
+  shape (Mission mission) =
+      let t : Train = record { level = s .train .level; mission = mission } in
+      let within : InRange s (Mission mission) t (s .marks) =
+      λ train marks ok. (and-both _ (leb mission missionUnderWay) (and-left (leb (s .train .level) highestLevel) _ train) ok, marks) in
+      cond-case (Shape n s (Mission mission) nobody) (eqb mission missionEnded) _ _
+      (λ ended. closesEvery t within)
+      (λ other. notes t (s .marks) within)
+  shape Mode = notes (s .train) _ (λ train marks ok. (train, marks))
+  shape (Hole entered) =
+      cond-case (Shape n s (Hole entered) nobody) (holeTaken (s .marks) entered) _ _
+      (λ taken. notes (s .train) (markHole (s .marks) entered) (λ train marks ok. (train, hole-marks entered)))
+      (λ other. refuses refusal.notTaken (omega arith))
+  shape (Order p accepting cause) =
+      cond-case (Shape n s (Order p accepting cause) (orderTo p)) (inForce cause (s .train) (s .marks)) _ _
+      (λ in-force. ordered-shape p accepting cause (seek p (s .places)) refl)
+      (λ other. refuses refusal.notInForce (omega arith))
+  shape EndAll = closesEvery (s .train) (λ train marks ok. (train, marks))
+  shape (Call p) =
+      cond-case (Shape n s (Call p) (callOf p)) (isRbc p) _ _
+      (λ rbc. called-shape p rbc (seek p (s .places)) refl)
+      (λ riu. refuses refusal.callFromRiu (omega arith))
+  shape (Named p e) = named-shape p e (seek p (s .places)) refl
+
+  -- what holds of every refusal and of every step on an event holds of every record and room
+  pub on-record : (P : Outcome → Type 0) (bytes : List ℕ) (room : ℕ)
+      → ((r : ℕ) → RecordRefusal r → P (refused r s))
+      → ((e : Event) → reading bytes ≡ Meant e → sound n s ≡ true → eventOk e ≡ true → P (step n s e))
+      → P (onRecord n s bytes room)
+  unfolding onRecord
+  on-record P bytes room refusals steps =
+      cond-case P (leb actionRoom room) _ _
+      (λ enough.
+      cond-case P (sound n s) _ _ (by (reading bytes) refl (reading-ok bytes))
+      (λ unsound. refusals refusal.notSound (omega arith)))
+      (λ small. refusals refusal.noRoom (omega arith))
+    where
+      by : (r : Reading) → reading bytes ≡ r → readingOk r ≡ true → sound n s ≡ true → P (onReading n s r)
+      by (Meant e) is ok good = steps e is good ok
+      by (Refused r) is ok good =
+          let low = leb-true refusal.wrongLength r (and-left (leb refusal.wrongLength r) (leb r refusal.outOfRange) ok) in
+          let high = leb-true r refusal.outOfRange (and-right (leb refusal.wrongLength r) (leb r refusal.outOfRange) ok) in
+          refusals r (omega arith)
+
+  -- the same of a law that goes by whom the record concerns
+  pub by-concern : (P : Concern → Outcome → Type 0) (bytes : List ℕ) (room : ℕ)
+      → ((c : Concern) (r : ℕ) → RecordRefusal r → P c (refused r s))
+      → ((e : Event) → P (concern e) (step n s e))
+      → P (concernOf (reading bytes)) (onRecord n s bytes room)
+  by-concern P bytes room refusals steps =
+      on-record (P (concernOf (reading bytes))) bytes room (refusals (concernOf (reading bytes))) (λ e is good ok. rw is (steps e))

@@ -1,0 +1,38 @@
+-- The places passed are closed where they were due, and their actions stand in the list.
+use borrow.Author.Needs.{needs}
+use mathlib.Core.Path.{_≡_, refl, sym, ap, _∙_}
+use mathlib.Core.List.{_++_}
+use Prim.Native.Nat.{_-_, _≤_}
+use native.Mathlib.Omega.{arith}
+use lib.ListN.{length, length-map, take, drop}
+use Rattle.unit.specs.Steps.{closed, closingActions, withPlaces}
+use Rattle.unit.specs.Forms.{listed}
+use Rattle.unit.proofs.Rules.{packed-done}
+use Rattle.unit.proofs.Closings.{closings-places, closings-actions, closings-all, sent-all}
+use Rattle.unit.proofs.state.State.close_places.Statement.{statement}
+use Rattle.unit.proofs.state.State.close_places.Tie as tie
+
+abbrev Inv-loop : tie.InvT-loop
+Inv-loop self which places₀ actions₀ i₀ places actions i = (i ≤ 4) × (places ≡ closed which (take i places₀) ++ drop i places₀) × (actions ≡ listed (closingActions which (take i places₀)))
+
+abbrev μ-loop : tie.MeasureT-loop
+μ-loop self which places₀ actions₀ i₀ places actions i = 4 - i
+
+four : (c : tie.Start Inv-loop μ-loop) → length (c .args .self .places) ≡ 4
+four c = sym (length-map (c .args .self .places) _) ∙ c .good .0 .1 .1 .1 .1 .1 .0 .1 .0 .1
+
+loop-holds : tie.Need-loop-holds Inv-loop μ-loop
+unfolding closed closingActions
+loop-holds c = (omega arith, refl, c .none .ensures)
+
+loop-again : tie.Need-loop-again Inv-loop μ-loop
+loop-again c = (omega arith, closings-places (c .before .before .before .before .before .before .before .before .before .args .which) (c .before .before .before .before .before .before .before .before .before .args .self .places) _ (omega (arith, four (c .before .before .before .before .before .before .before .before .before))) _ (c .before .before .before .before .before .before .loop .inv .1) _ _ (c .before .before .before .closed-by .ensures) (c .after .ensures), closings-actions (c .before .before .before .before .before .before .before .before .before .args .which) (c .before .before .before .before .before .before .before .before .before .args .self .places) _ (omega (arith, four (c .before .before .before .before .before .before .before .before .before))) _ (c .before .before .before .before .before .before .loop .inv .1) _ _ _ _ (omega (arith, four (c .before .before .before .before .before .before .before .before .before))) (c .before .before .before .before .before .before .loop .inv .2) (c .before .before .partner .ensures) (c .before .before .before .closed-by .ensures) (c .before .send .ensures))
+
+returns : tie.Need-returns Inv-loop μ-loop
+returns c =
+    packed-done _ (withPlaces (c .before .before .before .before .args .self) (closed (c .before .before .before .before .args .which) (c .before .before .before .before .args .self .places))) _ (closingActions (c .before .before .before .before .args .which) (c .before .before .before .before .args .self .places))
+    (ap (withPlaces (c .before .before .before .before .args .self)) (c .before .loop .inv .1 ∙ closings-all (c .before .before .before .before .args .which) (c .before .before .before .before .args .self .places) (c .before .loop .i) (omega (arith, four (c .before .before .before .before)))))
+    (c .before .loop .inv .2 ∙ sent-all (c .before .before .before .before .args .which) (c .before .before .before .before .args .self .places) (c .before .loop .i) (omega (arith, four (c .before .before .before .before))))
+
+pub close-places-spec : {M : Type 1} → statement M
+close-places-spec = tie.close (tie.spec Inv-loop μ-loop (λ c κs. search needs) loop-holds (λ c. search needs) (λ c. omega arith) (λ c κs. search needs) (λ c κs. search needs) (λ c κs. search needs) (λ c κs. search needs) (λ c. search needs) (λ c. omega arith) (λ c. omega arith) (λ c. omega arith) loop-again returns)

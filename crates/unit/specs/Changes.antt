@@ -1,0 +1,51 @@
+-- Only private contracts use what stands here: a step as the code reads it before it is carried out.
+-- Defines: noted, closesAny, settled, carried.
+use Rattle.place.specs.declared.turn.Closing.{Closing}
+use Rattle.place.specs.declared.turn.Closing.the-variants.{Every, Sessions, Nothing}
+use Rattle.place.specs.declared.turn.Turn.the-variants.{Stays}
+use Rattle.unit.specs.declared.state.Train.{Train}
+use Rattle.unit.specs.declared.state.Marks.{Marks}
+use Rattle.unit.specs.declared.state.State.{State}
+use Rattle.unit.specs.declared.change.Change.{Change}
+use Prim.Native.Nat.{ℕ, _+_}
+use mathlib.Core.Bool.{Bool, true, false}
+use mathlib.Core.List.{_++_, map}
+use lib.ListN.{set}
+use Rattle.unit.specs.Forms.{noAction}
+use Rattle.unit.specs.States.{placeCount}
+use Rattle.place.specs.Places.{vacant}
+use Rattle.place.specs.Table.{numbers}
+use Rattle.unit.specs.Steps.{act, withPlaces, closed, closingActions, Outcome}
+
+-- a change that sets no place
+unfoldable pub noted : ℕ → Train → Marks → Closing → Change
+noted r t m which =
+    record {
+      code = r;
+      train = t;
+      marks = m;
+      which = which;
+      at = placeCount;
+      place = vacant;
+      partner = noAction .partner;
+      turn = Stays;
+    }
+
+-- whether any place can be due
+abbrev pub closesAny : Closing → Bool
+closesAny Every = true
+closesAny Sessions = true
+closesAny Nothing = false
+
+-- the state with the train, the marks and the place that a change names; past the last place it sets none
+unfoldable pub settled : State → Change → State
+settled s c = record { limits = s .limits; train = c .train; marks = c .marks; places = set (s .places) (c .at) (c .place) }
+
+-- a change carried out: first the closings, then the place and the actions of its turn
+unfoldable pub carried : State → Change → Outcome
+carried s c =
+    record {
+      code = c .code;
+      state = settled (withPlaces s (closed (c .which) (s .places))) c;
+      actions = closingActions (c .which) (s .places) ++ map (act (c .partner)) (numbers (c .turn));
+    }

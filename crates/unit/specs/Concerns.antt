@@ -1,0 +1,99 @@
+-- Only private contracts and the laws that crates above stand on use what stands here: whom an event concerns, and the actions and
+-- places of any choice of partners.
+-- Defines: Concern, concern, concernOf, stirring, stirs, takesIn, actionFor, releaseFor, otherFor, heldBy, placeOf,
+-- isConnecting, heldPast, placePast.
+use mathlib.Core.Bool.{Bool, true, false, _&&_, not}
+use lib.Dec.{eqb}
+use Rattle.record.specs.declared.partner.Partner.{Partner}
+use Rattle.record.specs.declared.event.PartnerEvent.{PartnerEvent}
+use Rattle.record.specs.declared.event.PartnerEvent.the-variants.{Drop, Up, Loss, Timeout, Version, Ended}
+use Rattle.record.specs.declared.event.Event.{Event}
+use Rattle.record.specs.declared.event.Event.the-variants.{Level, Mission, Mode, Hole, Order, EndAll, Call, Named}
+use Rattle.record.specs.declared.event.Reading.{Reading}
+use Rattle.record.specs.declared.event.Reading.the-variants.{Meant, Refused}
+use Rattle.place.specs.Table.{release}
+use Rattle.place.specs.declared.phase.Phase.{Phase}
+use Rattle.place.specs.declared.phase.Phase.the-variants.{Connecting, Contacting, Open, Lost, Ending}
+use Rattle.place.specs.declared.place.Holding.{Holding}
+use Rattle.place.specs.declared.place.Holding.the-variants.{Free, Held}
+use Rattle.place.specs.declared.place.Place.{Place}
+use Rattle.unit.specs.declared.answer.Action.{Action}
+
+-- nobody, the partner of an order, the partner that calls, or the one that another event names
+pub data Concern : Type 0 where
+  nobody : Concern
+  orderTo : Partner → Concern
+  callOf : Partner → Concern
+  naming : Partner → PartnerEvent → Concern
+
+-- whom an event concerns
+abbrev pub concern : Event → Concern
+concern (Level level manual) = nobody
+concern (Mission mission) = nobody
+concern Mode = nobody
+concern (Hole entered) = nobody
+concern (Order p accepting cause) = orderTo p
+concern EndAll = nobody
+concern (Call p) = callOf p
+concern (Named p e) = naming p e
+
+-- whom a record concerns, as it reads
+abbrev pub concernOf : Reading → Concern
+concernOf (Meant e) = concern e
+concernOf (Refused r) = nobody
+
+-- up, lost or timeout
+abbrev pub stirring : PartnerEvent → Bool
+stirring Drop = false
+stirring Up = true
+stirring Loss = true
+stirring Timeout = true
+stirring (Version v) = false
+stirring Ended = false
+
+-- an up, lost or timeout that names one of these partners
+abbrev pub stirs : (Partner → Bool) → Concern → Bool
+stirs mine nobody = false
+stirs mine (orderTo p) = false
+stirs mine (callOf p) = false
+stirs mine (naming p e) = mine p && stirring e
+
+-- an order or a call that takes one of these partners in, where it is accepted
+abbrev pub takesIn : (Partner → Bool) → Concern → Bool
+takesIn mine nobody = false
+takesIn mine (orderTo p) = mine p
+takesIn mine (callOf p) = mine p
+takesIn mine (naming p e) = false
+
+-- an action for one of these partners; a release among them; any other
+abbrev pub actionFor : (Partner → Bool) → Action → Bool
+actionFor mine a = mine (a .partner)
+
+abbrev pub releaseFor : (Partner → Bool) → Action → Bool
+releaseFor mine a = mine (a .partner) && eqb (a .number) release
+
+abbrev pub otherFor : (Partner → Bool) → Action → Bool
+otherFor mine a = mine (a .partner) && not (eqb (a .number) release)
+
+-- a place that one of these partners has
+abbrev pub heldBy : (Partner → Bool) → Holding → Bool
+heldBy mine Free = false
+heldBy mine (Held d ph p) = mine p
+
+abbrev pub placeOf : (Partner → Bool) → Place → Bool
+placeOf mine place = heldBy mine (place .holding)
+
+-- a place that one of them has and that is not Connecting
+abbrev pub isConnecting : Phase → Bool
+isConnecting (Connecting t) = true
+isConnecting (Contacting t) = false
+isConnecting Open = false
+isConnecting (Lost t) = false
+isConnecting (Ending t) = false
+
+abbrev pub heldPast : (Partner → Bool) → Holding → Bool
+heldPast mine Free = false
+heldPast mine (Held d ph p) = mine p && not (isConnecting ph)
+
+abbrev pub placePast : (Partner → Bool) → Place → Bool
+placePast mine place = heldPast mine (place .holding)

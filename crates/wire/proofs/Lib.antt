@@ -1,0 +1,4 @@
+pub mod Tests
+pub mod Blocks
+pub mod Padded
+pub mod OneAnswer
