@@ -77,8 +77,23 @@ function field(term, name, w, t, k, i, from) {
     fail("no field " name ": " term)
 }
 function a_number(term) { return value(term) ~ /^[0-9]+$/ }
+# what `( λ x y. body ) a b ..` is, or "" where an argument is missing
+function applied(w, k, l, n, i, name, last, bound, m, token, text) {
+    n = words(substr(w[1], 3, length(w[1]) - 4), l)
+    for (i = 2; i <= n && !last; i++) {
+        name = l[i]; last = sub(/\.$/, "", name)
+        if (++m >= k) return ""
+        bound[name] = w[m + 1]
+    }
+    n = split(joined(l, i, n), token, " ")
+    for (i = 1; i <= n; i++) if (token[i] in bound) token[i] = bracketed(bound[token[i]])
+    text = joined(token, 1, n)
+    return k > m + 1 ? bracketed(text) " " joined(w, m + 2, k) : text
+}
 function value(term, w, k, text, list, i) {
     k = parts(term, w)
+    if (k > 1 && w[1] ~ /^\( λ /) { text = applied(w, k); return text == "" ? joined(w, 1, k) : value(text) }
+    if (k > 1 && w[1] ~ /^\( / && w[2] !~ /^\./) return value(substr(w[1], 3, length(w[1]) - 4) " " joined(w, 2, k))
     if (k > 1 && w[2] ~ /^\./) return value(bracketed(field(w[1], substr(w[2], 2))) (k > 2 ? " " joined(w, 3, k) : ""))
     if (w[1] in kept) return joined(w, 1, k)
     if (w[1] == "cond" && k == 4) {

@@ -27,6 +27,7 @@ use Rattle.unit.proofs.Balances.{atMost}
 use Rattle.unit.proofs.Scales.{Scale, Balanced, weightIn}
 use Rattle.unit.proofs.StepAccounts.{total}
 use Rattle.history.proofs.Falling.{Numbers, falling, fallings, falling-balanced}
+use Rattle.unit.specs.States.{some}
 
 -- what is left to a place at its last try, n being the limit of tries; what opens a session, or takes a partner in, brings more
 abbrev leftNumbers : ℕ → Numbers
@@ -144,7 +145,7 @@ module _ (n : ℕ) (p : Partner) where
 
     -- and it has a place that waits
     waits-some : (ps : List Place) → waits p ps ≡ true → 1 ≤ weigh (here (waitsAt p)) ps
-    unfolding waits weigh
+    unfolding weigh some
     waits-some [] h = true-false false h refl
     waits-some (place ∷ ps) h = by (waitsAt p place) h (waits-some ps)
       where

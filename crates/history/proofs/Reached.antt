@@ -11,7 +11,7 @@ use lib.ListN.{getD, replicate}
 use Rattle.record.specs.Records.{reading}
 use Rattle.place.specs.Places.{tryLimit}
 use Rattle.place.specs.Table.{turn}
-use Rattle.unit.specs.States.{first, seek, placesOk, sound, cold, coldStart}
+use Rattle.unit.specs.States.{first, seek, placesOk, sound, cold, coldStart, some}
 use Rattle.unit.specs.Steps.{closed, closingActions, step}
 use Rattle.unit.specs.OnRecords.{trace, onRecord}
 use Rattle.unit.specs.Examples.{examples}
@@ -83,7 +83,7 @@ p10-records = refl
 pub one-each :
     map (sumsOf tryLimit) (ordering tryLimit 0 ∷ calling tryLimit 0 ∷ calling tryLimit 1 ∷ [])
     ≡ counts 1 0 0 11 ∷ counts 0 1 0 5 ∷ counts 0 1 1 8 ∷ []
-unfolding reading turn first seek placesOk sound cold coldStart closed closingActions step onRecord summed lossesIn ordering calling sumsOf sumOver trace
+unfolding reading turn first seek placesOk sound cold coldStart closed closingActions step onRecord summed lossesIn ordering calling sumsOf sumOver trace some
 one-each = refl
 
 -- the same for every limit of tries from 1 to 9
@@ -91,7 +91,7 @@ one-each = refl
 pub one-each-to-nine :
     map (λ n. sumsOf n (ordering n 0) ∷ sumsOf n (calling n 0) ∷ sumsOf n (calling n 1) ∷ []) oneToNine
     ≡ map (λ n. counts 1 0 0 (perOrder n) ∷ counts 0 1 0 (perCall n) ∷ counts 0 1 1 (perCall n + perLoss n) ∷ []) oneToNine
-unfolding reading turn first seek placesOk sound cold coldStart closed closingActions step onRecord summed lossesIn ordering calling sumsOf sumOver trace
+unfolding reading turn first seek placesOk sound cold coldStart closed closingActions step onRecord summed lossesIn ordering calling sumsOf sumOver trace some
 one-each-to-nine = refl
 
 -- the timeouts of RBC 5
@@ -110,7 +110,7 @@ pub not-sooner : (n : ℕ)
     × (silent rbc5 (retries n) ≡ true)
     × (timeouts rbc5 (retries n) + 1 ≡ timeoutsToRelease n)
     × (holdsPlace rbc5 (after n (after n started (order5 ∷ [])) (retries n) .places) ≡ true)
-unfolding reading first seek placesOk sound cold coldStart closed closingActions step onRecord after waits holdsPlace endOf trace
+unfolding reading first seek placesOk sound cold coldStart closed closingActions step onRecord after endOf trace some
 not-sooner n some-try =
     let name = retries-name (n - 1) in
     let many = name .1 in

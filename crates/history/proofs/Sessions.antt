@@ -23,7 +23,7 @@ use Rattle.place.specs.declared.place.Direction.the-variants.{Outgoing, Incomin
 use Rattle.place.specs.declared.limits.Limits.{Limits}
 use Rattle.place.specs.declared.turn.Turn.{Turn}
 use Rattle.place.specs.declared.turn.Turn.the-variants.{Released, Becomes, Sends}
-use Rattle.unit.specs.States.{first, seek, placesOk, sound, noMarks, cold, coldStart}
+use Rattle.unit.specs.States.{first, seek, placesOk, sound, noMarks, cold, coldStart, some}
 use Rattle.unit.specs.Steps.{act, turned, closed, closingActions, step}
 use Rattle.unit.specs.OnRecords.{trace, actionRoom, onRecord}
 use Rattle.unit.specs.declared.state.State.{State}
@@ -52,7 +52,7 @@ module _ (n : ℕ) (d : Direction) where
 
   -- and so is the box
   box-sound : (ph : Phase) → Fit ph → sound n (box d ph) ≡ true
-  unfolding sound placesOk first
+  unfolding sound placesOk first some
   box-sound ph fit = rw (fit .0, fit .1) refl
 
   -- a record that names RBC 5 makes the turn that the table says
@@ -60,7 +60,7 @@ module _ (n : ℕ) (d : Direction) where
       → Fit ph
       → reading bytes ≡ Meant (Named rbc5 e)
       → onRecord n (box d ph) bytes actionRoom ≡ turned (box d ph) 0 rbc5 (turn n oneToTwo ph e)
-  unfolding onRecord step seek first
+  unfolding onRecord step seek first some
   turns ph e bytes fit means = rw (box-sound ph fit, means) refl
 
   -- such a record, then the rest
@@ -166,7 +166,7 @@ module _ (n : ℕ) (d : Direction) where
 module _ (n : ℕ) (some-try : 1 ≤ n) where
   -- a session that a call opens
   pub calling-leads : (c : ℕ) → Leads n started (calling n c) started 0 1 c (perCall n + perLoss n * c)
-  unfolding reading first seek placesOk sound cold coldStart step onRecord calling
+  unfolding reading first seek placesOk sound cold coldStart step onRecord calling some
   calling-leads c =
       counted-as n _ _ _ _ _ _ _ 0 1 c (perCall n + perLoss n * c)
       (begins n started call5 (record { code = 0; state = box Incoming Open; actions = act rbc5 159 ∷ [] }) _ _ _ _ _ _ refl (session-leads n Incoming some-try c))
@@ -184,12 +184,12 @@ module _ (n : ℕ) (some-try : 1 ≤ n) where
 
   -- a place is held through all tries but one
   pub connecting-holds : after n (after n started (order5 ∷ [])) (retries n) ≡ box Outgoing (Connecting n)
-  unfolding reading turn first seek placesOk sound cold coldStart closed closingActions step onRecord after endOf trace
+  unfolding reading turn first seek placesOk sound cold coldStart closed closingActions step onRecord after endOf trace some
   connecting-holds = all-tries n Outgoing Connecting 21 connecting-fit (λ t. try-again n Outgoing 21 (Connecting t)) some-try .ends
 
   -- a session that an order asks for
   pub ordering-leads : (c : ℕ) → Leads n started (ordering n c) started 1 0 c (perOrder n + perLoss n * c)
-  unfolding reading turn first seek placesOk sound cold coldStart closed closingActions step onRecord ordering
+  unfolding reading turn first seek placesOk sound cold coldStart closed closingActions step onRecord ordering some
   ordering-leads c =
       counted-as n _ _ _ _ _ _ _ 1 0 c (perOrder n + perLoss n * c)
       (begins n started order5 (record { code = 0; state = box Outgoing (Connecting 1); actions = act rbc5 21 ∷ [] }) _ _ _ _ _ _ refl

@@ -11,7 +11,7 @@ use Rattle.record.specs.declared.partner.Partner.{Partner}
 use Rattle.wire.proofs.Tests.{and-left, and-right, cond-case}
 use Rattle.place.specs.Places.{tryLimit, holds}
 use Rattle.place.specs.declared.place.Place.{Place}
-use Rattle.unit.specs.States.{sound}
+use Rattle.unit.specs.States.{sound, some}
 use Rattle.unit.specs.OnRecords.{trace, actionRoom, onRecord}
 use Rattle.unit.specs.declared.state.State.{State}
 use Rattle.unit.specs.declared.answer.Action.{Action}
@@ -71,7 +71,7 @@ module _ (n : ℕ) (some-try : 1 ≤ n) (p : Partner) where
 
 -- a partner that holds none of the places has none
 absent : (p : Partner) (ps : List Place) → weigh (here (holds p)) ps ≡ 0 → holdsPlace p ps ≡ false
-unfolding weigh holdsPlace
+unfolding weigh some
 absent p [] h = refl
 absent p (place ∷ ps) h = by (holds p place) (omega arith) (absent p ps (omega arith))
   where

@@ -30,6 +30,7 @@ use Rattle.unit.specs.Kept.{count}
 use Rattle.unit.specs.OnRecords.{trace}
 use Rattle.unit.specs.declared.state.State.{State}
 use Rattle.unit.specs.declared.answer.Action.{Action}
+use Rattle.unit.specs.States.{some}
 
 -- the state that a row of outcomes ends in
 unfoldable pub endOf : State → List Outcome → State
@@ -144,9 +145,8 @@ timeouts p [] = 0
 timeouts p (bytes ∷ history) = one (timeoutFor p bytes) + timeouts p history
 
 -- the partner holds a place
-unfoldable pub holdsPlace : Partner → List Place → Bool
-holdsPlace p [] = false
-holdsPlace p (place ∷ ps) = holds p place || holdsPlace p ps
+abbrev pub holdsPlace : Partner → List Place → Bool
+holdsPlace p = some (holds p)
 
 -- "A partner that waits (any phase but Open)"
 abbrev pub waitingPhase : Phase → Bool
@@ -159,9 +159,8 @@ waitingPhase (Ending t) = true
 abbrev pub waitsAt : Partner → Place → Bool
 waitsAt p place = onHolding false (λ d ph q. samePartner p q && waitingPhase ph) (place .holding)
 
-unfoldable pub waits : Partner → List Place → Bool
-waits p [] = false
-waits p (place ∷ ps) = waitsAt p place || waits p ps
+abbrev pub waits : Partner → List Place → Bool
+waits p = some (waitsAt p)
 
 -- the releases of one partner
 abbrev pub releaseOf : Partner → Action → Bool

@@ -69,7 +69,7 @@ bodyBytes s = headBytes s ++ placesBytes (s .places)
 unfoldable pub imageOf : State → List ℕ
 imageOf s = imageKind ∷ bodyBytes s
 
--- what a refused write answers, and an accepted one
+-- what a refused write answers
 abbrev pub writeRefused : ℕ → State → Stored
 writeRefused r s = record { code = r; state = s; count = 0 }
 

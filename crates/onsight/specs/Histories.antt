@@ -1,6 +1,6 @@
 -- What the promises of request Q-1 speak of: histories, rows of events of any length, refused ones among them.
 -- Defines: Met, met, endOf, after, codes, acceptedOf, acceptedIn, lastIs, anyIs, isIdle, isLate, isDone, isProfile, isExpiry,
--- isAcknowledgement, expiryInLate, bringsOS, ends, asksForAcknowledgement, every, unacknowledged, mostAccepted, longest, wayTo,
+-- isAcknowledgement, expiryInLate, ends, bringsOS, asksForAcknowledgement, every, unacknowledged, mostAccepted, longest, wayTo,
 -- wayToDone.
 use Prim.Native.Nat.{ℕ}
 use mathlib.Core.Bool.{Bool, true, false, cond, _&&_, _||_, not}

@@ -49,8 +49,8 @@ seat d ph p = record { holding = Held d ph p }
 
 -- what is said of a place that is free, and of one that holds a partner with its direction and phase
 abbrev pub onHolding : {A : Type 0} → A → (Direction → Phase → Partner → A) → Holding → A
-onHolding free held Free = free
-onHolding free held (Held d ph p) = held d ph p
+onHolding none held Free = none
+onHolding none held (Held d ph p) = held d ph p
 
 -- the place is free
 abbrev pub isFree : Place → Bool

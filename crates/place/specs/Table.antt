@@ -1,6 +1,6 @@
 -- Document 01, "Rules of one step", the part on one place: the phase table, closing, judging a version.
 -- Defines: request, release, incompatible, initiate, terminate, established, Cell, table, column, cell, firstTry,
--- closing, xOf, supported, judged, withTries, oneMore, again, versionOf, play, turn, takes, numbers, inPhase, placeAfter,
+-- closing, xOf, supported, judged, withTries, oneMore, again, versionOf, play, turn, onTurn, takes, numbers, inPhase, placeAfter,
 -- placeTurn, inSession, notEnding, closes, closedBy.
 use Prim.Native.Nat.{ℕ, _+_, _/_}
 use mathlib.Core.Bool.{Bool, true, false, cond, _&&_}
@@ -15,7 +15,6 @@ use Rattle.place.specs.Places.{tries, vacant, seat, onHolding}
 use Rattle.place.specs.declared.phase.Phase.{Phase}
 use Rattle.place.specs.declared.phase.Phase.the-variants.{Connecting, Contacting, Open, Lost, Ending}
 use Rattle.place.specs.declared.place.Holding.{Holding}
-use Rattle.place.specs.declared.place.Holding.the-variants.{Free, Held}
 use Rattle.place.specs.declared.place.Place.{Place}
 use Rattle.place.specs.declared.limits.Limits.{Limits}
 use Rattle.place.specs.declared.turn.Turn.{Turn}
@@ -144,33 +143,28 @@ play n l ph version judge = judged l version
 unfoldable pub turn : ℕ → Limits → Phase → PartnerEvent → Turn
 turn n l ph e = play n l ph (versionOf e) (cell ph e)
 
+-- what is said of a turn that lets the place stay, of a release, and of one that leads to another phase with these actions
+abbrev pub onTurn {ℓ} : {A : Type ℓ} → A → A → (List ℕ → Phase → A) → Turn → A
+onTurn stays released leads Stays = stays
+onTurn stays released leads Released = released
+onTurn stays released leads (Becomes ph) = leads [] ph
+onTurn stays released leads (Sends number ph) = leads (number ∷ []) ph
+onTurn stays released leads (SendsBoth first second ph) = leads (first ∷ second ∷ []) ph
+
 -- the event is taken: "\"no\" is refusal 7"
 abbrev pub takes : Turn → Bool
-takes Stays = false
-takes Released = true
-takes (Becomes ph) = true
-takes (Sends number ph) = true
-takes (SendsBoth first second ph) = true
+takes = onTurn false true (λ sent ph. true)
 
 -- the numbers of a turn's actions, in their order
 abbrev pub numbers : Turn → List ℕ
-numbers Stays = []
-numbers Released = release ∷ []
-numbers (Becomes ph) = []
-numbers (Sends number ph) = number ∷ []
-numbers (SendsBoth first second ph) = first ∷ second ∷ []
+numbers = onTurn [] (release ∷ []) (λ sent ph. sent)
 
 -- the place after a turn: "Direction never changes while the place is held"
 abbrev pub inPhase : Holding → Phase → Place
-inPhase Free next = vacant
-inPhase (Held d ph p) next = seat d next p
+inPhase k next = onHolding vacant (λ d ph p. seat d next p) k
 
 abbrev pub placeAfter : Place → Turn → Place
-placeAfter place Stays = place
-placeAfter place Released = vacant
-placeAfter place (Becomes next) = inPhase (place .holding) next
-placeAfter place (Sends number next) = inPhase (place .holding) next
-placeAfter place (SendsBoth first second next) = inPhase (place .holding) next
+placeAfter place = onTurn place vacant (λ sent next. inPhase (place .holding) next)
 
 -- what an event that names the partner of a place makes of it
 abbrev pub placeTurn : ℕ → Limits → Place → PartnerEvent → Turn

@@ -7,14 +7,13 @@ use Rattle.place.specs.declared.place.Direction.{Direction}
 use Rattle.place.specs.declared.place.Holding.{Holding}
 use Rattle.place.specs.declared.place.Holding.the-variants.{Free, Held}
 use Rattle.place.specs.declared.turn.Turn.{Turn}
-use Rattle.place.specs.declared.turn.Turn.the-variants.{Stays, Released, Becomes, Sends, SendsBoth}
 use Prim.Native.Nat.{ℕ, _+_}
 use mathlib.Core.Bool.{Bool, true, cond, _&&_, _||_}
 use mathlib.Core.Path.{_≡_}
 use mathlib.Core.List.{List, [], _∷_}
 use lib.Dec.{eqb}
 use Rattle.place.specs.Places.{phaseNumber, tries, phaseOk, fitsIncoming}
-use Rattle.place.specs.Table.{request, release}
+use Rattle.place.specs.Table.{request, release, onTurn}
 
 -- "Of our own numbering: 21 request connection, 22 release": none of the messages 154, 155, 156, 159
 abbrev pub ownNumbers : List ℕ → Bool
@@ -23,11 +22,7 @@ ownNumbers (number ∷ rest) = (eqb number request || eqb number release) && own
 
 -- what is asked of the phase that a turn leads to, if it leads to one
 abbrev pub onNext : (Phase → Type 0) → Turn → Type 0
-onNext P Stays = Unit
-onNext P Released = Unit
-onNext P (Becomes q) = P q
-onNext P (Sends number q) = P q
-onNext P (SendsBoth first second q) = P q
+onNext P = onTurn Unit Unit (λ sent next. P next)
 
 -- the tries at which a phase is entered
 abbrev pub firstTries : Phase → ℕ

@@ -159,7 +159,7 @@ impl Place {
         }
     }
 
-    // What an event that names its partner makes of it; a free place refuses.
+    // What an event that names its partner makes of it; a free place stays.
     pub fn turn(self, event: PartnerEvent, limits: Limits) -> Turn
         ensures { λ r. ⌜ r ≡ placeTurn tryLimit limits self event ⌝ }
     {
@@ -174,7 +174,7 @@ impl Place {
         }
     }
 
-    // What a closing makes of it; a place that is not due refuses.
+    // What a closing makes of it; a place that it is not for stays.
     pub fn closed_by(self, which: Closing) -> Turn
         ensures { λ r. ⌜ r ≡ closedBy which self ⌝ }
     {

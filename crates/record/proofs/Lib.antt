@@ -2,3 +2,4 @@ pub mod Partners
 pub mod Ranges
 pub mod ByKind
 pub mod OneAnswer
+pub mod Named

@@ -8,7 +8,7 @@ use Prim.Native.Nat.{ℕ, _+_, _≤_, _<_}
 use native.Mathlib.Omega.{arith}
 use lib.Dec.{eqb}
 use lib.ListN.{length, getD, set}
-use borrow.Author.Tests.{leb-true, le-leb, eqb-true, eq-eqb}
+use borrow.Author.Tests.{eqb-true, eq-eqb}
 use Rattle.record.specs.Partners.{samePartner}
 use Rattle.record.specs.declared.partner.Partner.{Partner}
 use Rattle.wire.proofs.Tests.{and-left, and-right, and-both, cond-case, cond-holds}
@@ -23,12 +23,12 @@ use Rattle.place.specs.declared.place.Holding.the-variants.{Free, Held}
 use Rattle.place.specs.declared.place.Place.{Place}
 use Rattle.place.specs.declared.turn.Closing.{Closing}
 use Rattle.place.proofs.Turns.{closedBy-sound, after-holds}
-use Rattle.unit.specs.States.{placeCount, first, limitsOk, trainOk, marksOk, absentFrom, placesOk, sound}
+use Rattle.unit.specs.States.{placeCount, limitsOk, trainOk, marksOk, absentFrom, placesOk, sound}
 use Rattle.unit.specs.Steps.{closed}
 use Rattle.unit.specs.declared.state.State.{State}
 use Rattle.unit.proofs.Weights.{weigh-set, weigh-closed, weigh-at}
 use Rattle.unit.specs.Kept.{here, once, weigh}
-use Rattle.unit.proofs.Searches.{first-none, none-first}
+use Rattle.unit.proofs.Searches.{none-some, some-none, first-none, none-first}
 
 -- 1 where a test fails
 abbrev fails : Bool → ℕ
@@ -71,7 +71,7 @@ alone q Free ps absent rest = omega arith
 alone q (Held d ph r) ps absent rest =
     cond-case (λ w. w + weigh (here (holds q)) ps ≤ 1) (samePartner q r) 1 0
     (λ same.
-    let none : weigh (here (holds r)) ps ≡ 0 = first-none (holds r) ps (leb-true (length ps) (first (holds r) ps) absent) in
+    let none : weigh (here (holds r)) ps ≡ 0 = first-none (holds r) ps (none-some (holds r) ps absent) in
     let none-q : weigh (here (holds q)) ps ≡ 0 = ap (λ p. weigh (here (holds p)) ps) (same-eq q r same) ∙ none in
     omega arith)
     (λ other. omega arith)
@@ -84,7 +84,7 @@ lone Free ps one = refl
 lone (Held d ph r) ps one =
     let itself : once (samePartner r r) ≡ 1 = ap once (same-refl r) in
     let both = one r in
-    le-leb (length ps) (first (holds r) ps) (none-first (holds r) ps (omega arith))
+    some-none (holds r) ps (none-first (holds r) ps (omega arith))
 
 pub places-facts : (n : ℕ) (ps : List Place) → placesOk n ps ≡ true → PlacesFacts n ps
 unfolding placesOk weigh

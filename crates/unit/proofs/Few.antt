@@ -18,7 +18,7 @@ use Rattle.place.specs.declared.place.Direction.the-variants.{Outgoing}
 use Rattle.place.specs.declared.place.Holding.{Holding}
 use Rattle.place.specs.declared.place.Holding.the-variants.{Free, Held}
 use Rattle.place.specs.declared.place.Place.{Place}
-use Rattle.place.specs.declared.turn.Turn.the-variants.{Stays as Untaken}
+use Rattle.place.specs.declared.turn.Turn.the-variants.{Stays}
 use Rattle.place.specs.declared.turn.Closing.{Closing}
 use Rattle.place.specs.declared.turn.Closing.the-variants.{Every}
 use Rattle.place.proofs.Turns.{turn-few}
@@ -51,7 +51,7 @@ closing-few (Ending t) = omega arith
 pub closedBy-few : (which : Closing) (k : Holding) → length (actionsIn k (holdingClosedBy which k)) ≤ once (not (isFreeHolding k))
 closedBy-few which Free = omega arith
 closedBy-few which (Held d ph p) =
-    cond-holds (λ t. length (map (act p) (numbers t)) ≤ 1) (closes which ph p) (closing ph) Untaken
+    cond-holds (λ t. length (map (act p) (numbers t)) ≤ 1) (closes which ph p) (closing ph) Stays
     (let few = closing-few ph in
     simp length-map few)
     (omega arith)

@@ -1,9 +1,9 @@
 -- What a search finds, for any test and any number of places.
 -- Defines: FoundOk, SearchedTo.
--- Proves: first-passes, first-lowest, first-none, none-first, seek-ok, found-ok, seek-lowest, searched-more, searched-found,
+-- Proves: first-passes, first-lowest, first-none, none-first, some-first, none-some, some-none, seek-ok, found-ok, seek-lowest, searched-more, searched-found,
 -- searched-none, seek-at, seek-vacant, seek-full.
-use mathlib.Core.Path.{_≡_, refl, ap, subst, _∙_}
-use mathlib.Core.Bool.{Bool, true, false, cond}
+use mathlib.Core.Path.{_≡_, refl, sym, ap, ap₂, subst, subst⁻¹, _∙_}
+use mathlib.Core.Bool.{Bool, true, false, cond, _||_, not, true≢false}
 use mathlib.Core.List.{List, [], _∷_}
 use Prim.Native.Nat.{ℕ, zero, suc, _+_, _≤_, _<_}
 use native.Mathlib.Nat.{le-of-suc-le-suc}
@@ -17,7 +17,7 @@ use Rattle.record.specs.declared.partner.Partner.{Partner}
 use Rattle.wire.proofs.Tests.{cond-case}
 use Rattle.place.specs.Places.{vacant, isFree, holds}
 use Rattle.place.specs.declared.place.Place.{Place}
-use Rattle.unit.specs.States.{first, seek}
+use Rattle.unit.specs.States.{some, first, seek}
 use Rattle.unit.specs.declared.search.Found.{Found}
 use Rattle.unit.specs.declared.search.Found.the-variants.{At, Vacant, Full}
 use Rattle.unit.specs.Kept.{here, once, weigh}
@@ -71,6 +71,49 @@ none-first test (p ∷ ps) h =
     let rest = none-first test ps (omega arith) in
     omega arith)
 
+ltb-suc : (a b : ℕ) → ltb a b ≡ ltb (suc a) (suc b)
+ltb-suc a b = by (ltb a b) refl
+  where
+    by : (x : Bool) → ltb a b ≡ x → ltb a b ≡ ltb (suc a) (suc b)
+    by true e =
+        let below = ltb-true a b e in
+        e ∙ sym (lt-ltb (suc a) (suc b) (omega arith))
+    by false e =
+        let above = ltb-false a b e in
+        e ∙ sym (le-ltb (suc a) (suc b) (omega arith))
+
+-- some place passes where the number of the lowest that does is below the number of places
+pub some-first : (test : Place → Bool) (ps : List Place) → some test ps ≡ ltb (first test ps) (length ps)
+unfolding some first
+some-first test [] = refl
+some-first test (p ∷ ps) = by (test p) (some-first test ps)
+  where
+    by : (b : Bool)
+        → some test ps ≡ ltb (first test ps) (length ps)
+        → (b || some test ps) ≡ ltb (cond b 0 (suc (first test ps))) (suc (length ps))
+    by true rest = sym (lt-ltb 0 (suc (length ps)) (omega arith))
+    by false rest = rest ∙ ltb-suc (first test ps) (length ps)
+
+-- and none passes where it is not
+pub none-some : (test : Place → Bool) (ps : List Place) → not (some test ps) ≡ true → length ps ≤ first test ps
+none-some test ps none = ltb-false (first test ps) (length ps) (sym (some-first test ps) ∙ by (some test ps) none)
+  where
+    by : (b : Bool) → not b ≡ true → b ≡ false
+    by true h = absurd (true≢false (sym h))
+    by false h = refl
+
+pub some-none : (test : Place → Bool) (ps : List Place) → length ps ≤ first test ps → not (some test ps) ≡ true
+some-none test ps above = ap not (some-first test ps ∙ le-ltb (first test ps) (length ps) above)
+
+-- the search by these numbers
+seek-first : (p : Partner) (ps : List Place)
+    → seek p ps
+    ≡ cond (ltb (first (holds p) ps) (length ps)) (At (first (holds p) ps))
+    (cond (ltb (first isFree ps) (length ps)) (Vacant (first isFree ps)) Full)
+unfolding seek
+seek-first p ps =
+    ap₂ (λ a b. cond a (At (first (holds p) ps)) (cond b (Vacant (first isFree ps)) Full)) (some-first (holds p) ps) (some-first isFree ps)
+
 -- what the search for a partner's place says
 abbrev pub FoundOk : Partner → List Place → Found → Type 0
 FoundOk p ps (At i) = (i < length ps) × (holds p (getD ps i vacant) ≡ true)
@@ -78,11 +121,11 @@ FoundOk p ps (Vacant i) = (i < length ps) × (isFree (getD ps i vacant) ≡ true
 FoundOk p ps Full = (weigh (here isFree) ps ≡ 0) × (weigh (here (holds p)) ps ≡ 0)
 
 pub seek-ok : (p : Partner) (ps : List Place) → FoundOk p ps (seek p ps)
-unfolding seek
 seek-ok p ps =
     let held = first (holds p) ps in
     let free = first isFree ps in
-    cond-case (FoundOk p ps) (ltb held (length ps)) (At held) (cond (ltb free (length ps)) (Vacant free) Full)
+    subst⁻¹ (FoundOk p ps) (seek-first p ps)
+    (cond-case (FoundOk p ps) (ltb held (length ps)) (At held) (cond (ltb free (length ps)) (Vacant free) Full)
     (λ found.
     let below = ltb-true held (length ps) found in
     (below, first-passes (holds p) ps below))
@@ -92,7 +135,7 @@ seek-ok p ps =
     (λ found.
     let below = ltb-true free (length ps) found in
     (below, first-passes isFree ps below, absent))
-    (λ full. (first-none isFree ps (ltb-false free (length ps) full), absent)))
+    (λ full. (first-none isFree ps (ltb-false free (length ps) full), absent))))
 
 -- what a place found says
 pub found-ok : (p : Partner) (ps : List Place) (found : Found) → seek p ps ≡ found → FoundOk p ps found
@@ -104,7 +147,7 @@ pub seek-lowest : (p : Partner) (ps : List Place) (i j : ℕ)
     → j < i
     → isFree (getD ps j vacant) ≡ false
 unfolding seek
-seek-lowest p ps i j is below = first-lowest isFree ps j (by (ltb (first (holds p) ps) (length ps)) (ltb (first isFree ps) (length ps)) is)
+seek-lowest p ps i j is below = first-lowest isFree ps j (by (some (holds p) ps) (some isFree ps) is)
   where
     by : (a b : Bool) → cond a (At (first (holds p) ps)) (cond b (Vacant (first isFree ps)) Full) ≡ Vacant i → j < first isFree ps
     by true b is = absurd (let z : _≡_ {A = ℕ} 0 1 = cc in omega arith)
@@ -145,18 +188,15 @@ module _ (test : Place → Bool) (ps : List Place) (from i : ℕ) (so-far : Sear
 -- the answer of the search for a partner, by what its two searches found
 module _ (p : Partner) (ps : List Place) (held : ℕ) (from-start : held ≡ 0 + first (holds p) ps) where
   pub seek-at : held < length ps → At held ≡ seek p ps
-  unfolding seek
   seek-at below =
       let same : held ≡ first (holds p) ps = omega arith in
-      rw (← same) (simp (lt-ltb held (length ps) below))
+      rw (seek-first p ps, ← same) (simp (lt-ltb held (length ps) below))
 
   module _ (absent : length ps ≤ held) (free : ℕ) (lowest : free ≡ first isFree ps) where
     pub seek-vacant : free < length ps → Vacant free ≡ seek p ps
-    unfolding seek
     seek-vacant below =
-        simp (le-ltb (first (holds p) ps) (length ps) (omega arith), ← lowest, lt-ltb free (length ps) below)
+        simp (seek-first p ps, le-ltb (first (holds p) ps) (length ps) (omega arith), ← lowest, lt-ltb free (length ps) below)
 
     pub seek-full : length ps ≤ free → Full ≡ seek p ps
-    unfolding seek
     seek-full above =
-        simp (le-ltb (first (holds p) ps) (length ps) (omega arith), le-ltb (first isFree ps) (length ps) (omega arith))
+        simp (seek-first p ps, le-ltb (first (holds p) ps) (length ps) (omega arith), le-ltb (first isFree ps) (length ps) (omega arith))

@@ -1,15 +1,15 @@
 -- Soundness of the places as the code tests it, from the lowest up.
 -- Proves: absent-by, ok-end, ok-more, ok-bad, sound-four.
 use mathlib.Core.Path.{_≡_, refl, sym, ap, ap₂, _∙_}
-use mathlib.Core.Bool.{Bool, true, false, _&&_}
+use mathlib.Core.Bool.{Bool, true, false, _&&_, not}
 use mathlib.Core.List.{List}
 use Prim.Native.Nat.{ℕ, _+_, _-_, _≤_, _<_}
 use native.Mathlib.Numerals.{add-one}
 use native.Mathlib.Omega.{arith}
-use lib.Dec.{leb}
+use lib.Dec.{leb, ltb}
 use lib.ListN.{length, getD, drop, length-drop, drop-of-length-le}
 use lib.Seq.{drop-cons}
-use borrow.Author.Tests.{leb-true, le-leb, eq-eqb}
+use borrow.Author.Tests.{leb-true, le-leb, eq-eqb, ltb-true, ltb-false, lt-leb}
 use Rattle.record.specs.declared.partner.Partner.{Partner}
 use Rattle.wire.proofs.Tests.{true-false}
 use Rattle.place.specs.Places.{vacant, holds, placeOk}
@@ -20,6 +20,7 @@ use Rattle.place.specs.declared.place.Holding.the-variants.{Held}
 use Rattle.place.specs.declared.place.Place.{Place}
 use Rattle.unit.specs.States.{placeCount, first, limitsOk, trainOk, marksOk, absentFrom, placesOk, sound}
 use Rattle.unit.specs.declared.state.State.{State}
+use Rattle.unit.proofs.Searches.{some-first}
 
 -- two orders that say the same are tested alike
 leb-same : (a b c d : ℕ) → (a ≤ b → c ≤ d) → (c ≤ d → a ≤ b) → leb a b ≡ leb c d
@@ -30,6 +31,13 @@ leb-same a b c d to from = by (leb a b) refl (leb c d) refl
     by true e false g = true-false (leb c d) (le-leb c d (to (leb-true a b e))) g
     by false e true g = true-false (leb a b) (le-leb a b (from (leb-true c d g))) e
     by false e false g = e ∙ sym g
+
+not-ltb : (a b : ℕ) → not (ltb a b) ≡ leb b a
+not-ltb a b = by (ltb a b) refl
+  where
+    by : (x : Bool) → ltb a b ≡ x → not (ltb a b) ≡ leb b a
+    by true e = ap not e ∙ sym (lt-leb b a (ltb-true a b e))
+    by false e = ap not e ∙ sym (le-leb b a (ltb-false a b e))
 
 -- a search from the next place on that comes to the end found none
 pub absent-by : (ps : List Place) (i : ℕ) (k : Holding) (d : Direction) (ph : Phase) (p : Partner) (r : ℕ)
@@ -42,6 +50,8 @@ absent-by ps i k d ph p r held found below =
     (λ h.
     let shorter : length ps - (i + 1) ≤ first (holds p) (drop (i + 1) ps) = simp length-drop at h in
     omega arith)
+    ∙ sym (not-ltb (first (holds p) (drop (i + 1) ps)) (length (drop (i + 1) ps)))
+    ∙ ap not (sym (some-first (holds p) (drop (i + 1) ps)))
     ∙ sym (ap (absentFrom (drop (i + 1) ps)) held)
 
 module _ (n : ℕ) (ps : List Place) (i : ℕ) where

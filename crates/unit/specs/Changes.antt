@@ -31,7 +31,7 @@ noted r t m which =
       turn = Stays;
     }
 
--- whether any place can be due
+-- the closing is for some place
 abbrev pub closesAny : Closing → Bool
 closesAny Every = true
 closesAny Sessions = true

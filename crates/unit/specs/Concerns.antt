@@ -1,5 +1,5 @@
--- Only private contracts and the laws that crates above stand on use what stands here: whom an event concerns, and the actions and
--- places of any choice of partners.
+-- Only laws for crates above speak of what stands here: whom an event concerns, and the actions and places of any choice of
+-- partners.
 -- Defines: Concern, concern, concernOf, stirring, stirs, takesIn, actionFor, releaseFor, otherFor, heldBy, placeOf,
 -- isConnecting, heldPast, placePast.
 use mathlib.Core.Bool.{Bool, true, false, _&&_, not}

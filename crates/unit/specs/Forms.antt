@@ -1,5 +1,4 @@
--- The answer of a step as the code holds it, its actions in an array of four; and a change, what the code reads from an event before
--- it carries it out.
+-- The answer of a step as the code holds it, its actions in an array of four.
 -- Defines: mostActions, noAction, listed, pushed, pushAll, packed, stepped.
 use Prim.Native.Nat.{ℕ, _+_}
 use mathlib.Core.Bool.{cond}

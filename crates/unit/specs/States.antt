@@ -1,17 +1,16 @@
 -- Document 01, "What the box remembers": soundness of a state, and the cold start.
--- Defines: placeCount, first, seek, highestX, limitsOk, trainOk, marksOk, absentFrom, placesOk, sound, noMarks, cold, noLimits,
+-- Defines: placeCount, some, first, seek, highestX, limitsOk, trainOk, marksOk, absentFrom, placesOk, sound, noMarks, cold, noLimits,
 -- coldStart.
 use Prim.Native.Nat.{ℕ, suc}
-use mathlib.Core.Bool.{Bool, true, false, cond, _&&_, not}
+use mathlib.Core.Bool.{Bool, true, false, cond, _&&_, not, _||_}
 use mathlib.Core.List.{List, [], _∷_}
-use lib.Dec.{eqb, leb, ltb}
+use lib.Dec.{eqb, leb}
 use lib.ListN.{length, replicate}
 use Rattle.record.specs.Records.{highestLevel, missionEnded, missionUnderWay}
 use Rattle.wire.specs.Refusals.{accepted, badLimits}
 use Rattle.record.specs.declared.partner.Partner.{Partner}
-use Rattle.place.specs.Places.{vacant, isFree, holds, placeOk}
+use Rattle.place.specs.Places.{vacant, isFree, holds, placeOk, onHolding}
 use Rattle.place.specs.declared.place.Holding.{Holding}
-use Rattle.place.specs.declared.place.Holding.the-variants.{Free, Held}
 use Rattle.place.specs.declared.place.Place.{Place}
 use Rattle.place.specs.declared.limits.Limits.{Limits}
 use Rattle.unit.specs.declared.state.Train.{Train}
@@ -25,7 +24,12 @@ use Rattle.unit.specs.declared.start.Started.{Started}
 abbrev pub placeCount : ℕ
 placeCount = 4
 
--- the number of the lowest place that passes a test; the number of places where none does
+-- some place passes a test
+unfoldable pub some : (Place → Bool) → List Place → Bool
+some test [] = false
+some test (p ∷ ps) = test p || some test ps
+
+-- the number of the lowest place that passes a test, where some place does
 unfoldable pub first : (Place → Bool) → List Place → ℕ
 first test [] = 0
 first test (p ∷ ps) = cond (test p) 0 (suc (first test ps))
@@ -33,8 +37,8 @@ first test (p ∷ ps) = cond (test p) 0 (suc (first test ps))
 -- where a partner has its place, else the lowest free place, else none
 unfoldable pub seek : Partner → List Place → Found
 seek p ps =
-    cond (ltb (first (holds p) ps) (length ps)) (At (first (holds p) ps))
-    (cond (ltb (first isFree ps) (length ps)) (Vacant (first isFree ps)) Full)
+    cond (some (holds p) ps) (At (first (holds p) ps))
+    (cond (some isFree ps) (Vacant (first isFree ps)) Full)
 
 -- the largest X, 7
 abbrev pub highestX : ℕ
@@ -54,8 +58,7 @@ marksOk m = not (m .inside && m .end)
 
 -- the partner has none of these places
 abbrev pub absentFrom : List Place → Holding → Bool
-absentFrom ps Free = true
-absentFrom ps (Held d ph p) = leb (length ps) (first (holds p) ps)
+absentFrom ps k = onHolding true (λ d ph p. not (some (holds p) ps)) k
 
 -- each place is sound by itself, and "no partner has two places"
 unfoldable pub placesOk : ℕ → List Place → Bool

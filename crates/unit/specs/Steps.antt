@@ -16,12 +16,11 @@ use Rattle.record.specs.declared.event.Cause.the-variants.{StartOfMission, Trac
 use Rattle.record.specs.declared.event.PartnerEvent.{PartnerEvent}
 use Rattle.record.specs.declared.event.Event.{Event}
 use Rattle.record.specs.declared.event.Event.the-variants.{Level, Mission, Mode, Hole, Order, EndAll, Call, Named}
-use Rattle.place.specs.Places.{vacant, seat}
+use Rattle.place.specs.Places.{vacant, seat, onHolding}
 use Rattle.place.specs.Table.{request, established, firstTry, takes, numbers, placeAfter, placeTurn, closedBy}
 use Rattle.place.specs.declared.phase.Phase.the-variants.{Connecting, Open}
 use Rattle.place.specs.declared.place.Direction.the-variants.{Outgoing, Incoming}
 use Rattle.place.specs.declared.place.Holding.{Holding}
-use Rattle.place.specs.declared.place.Holding.the-variants.{Free, Held}
 use Rattle.place.specs.declared.place.Place.{Place}
 use Rattle.place.specs.declared.turn.Turn.{Turn}
 use Rattle.place.specs.declared.turn.Closing.{Closing}
@@ -88,10 +87,9 @@ atHole s entered = cond (holeTaken (s .marks) entered) (done (withMarks s (markH
 
 -- the actions of a place's turn, for the partner that it holds
 abbrev pub actionsIn : Holding → Turn → List Action
-actionsIn Free t = []
-actionsIn (Held d ph p) t = map (act p) (numbers t)
+actionsIn k t = onHolding [] (λ d ph p. map (act p) (numbers t)) k
 
--- the places after a closing of those that are due, and its actions, "lowest first"
+-- the places after a closing, and its actions, "lowest first"
 unfoldable pub closed : Closing → List Place → List Place
 closed which [] = []
 closed which (p ∷ ps) = placeAfter p (closedBy which p) ∷ closed which ps

@@ -20,10 +20,10 @@ const HIGHEST_LEVEL: u32 = record::read::HIGHEST_LEVEL as u32;
 
 const HIGHEST_MISSION: u32 = record::read::HIGHEST_MISSION as u32;
 
-// The mission that a cold start begins with.
+// Mission 0, ended.
 pub const MISSION_ENDED: u32 = 0;
 
-// The level and the mission, as the driver's side reported them.
+// The level and the mission.
 pub struct Train {
     pub level: u32,
     pub mission: u32,

@@ -15,7 +15,7 @@ use place::turn::Closing;
 use record::event::Event;
 use wire::refusal::ACCEPTED;
 
-// Whether any place can be due.
+// Whether the closing is for any place.
 fn closes_any(which: Closing) -> bool
     ensures { λ r. ⌜ r ≡ closesAny which ⌝ }
 {
@@ -27,7 +27,7 @@ fn closes_any(which: Closing) -> bool
 }
 
 impl State {
-    // Closes the places that are due, lowest first.
+    // Closes the places that the closing is for, lowest first.
     fn close_places(self, which: Closing) -> Answer
         ensures { λ r. ⌜ r ≡ packed (closePlaces which self) ⌝ }
     {

@@ -14,5 +14,6 @@ byte s i = getD s i 0
 abbrev pub bit : ℕ → Bool
 bit b = leb b 1
 
+-- the field is 1
 abbrev pub flag : ℕ → Bool
 flag b = eqb b 1

@@ -4,12 +4,12 @@ use mathlib.Core.Path.{_≡_, refl}
 use mathlib.Core.List.{map}
 use Rattle.record.specs.Records.{reading}
 use Rattle.place.specs.Table.{turn}
-use Rattle.unit.specs.States.{first, seek, placesOk, sound, cold, coldStart}
+use Rattle.unit.specs.States.{first, seek, placesOk, sound, cold, coldStart, some}
 use Rattle.unit.specs.Steps.{closed, closingActions, step}
 use Rattle.unit.specs.OnRecords.{onRecord, trace}
 use Rattle.unit.specs.Examples.{examples, got, want}
 
 -- promise
 pub marked-hold : map got examples ≡ map want examples
-unfolding reading turn first seek placesOk sound cold coldStart closed closingActions step onRecord trace examples got want
+unfolding reading turn first seek placesOk sound cold coldStart closed closingActions step onRecord trace examples got want some
 marked-hold = refl
