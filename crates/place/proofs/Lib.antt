@@ -2,5 +2,6 @@ pub mod Holdings
 pub mod ByRow
 pub mod Turns
 pub mod Cells
+pub mod Drawn
 pub mod OneAnswer
 pub mod Agreed

@@ -1,7 +1,8 @@
 -- Only private contracts use what stands here: the cells of the phase table by the numbers that the code gives them.
--- Defines: legend, cellOf.
-use Rattle.place.specs.Table.{Cell, refuse, close, free, judge, cell}
+-- Defines: legend, cellOf, rowNumber, drawn.
+use Rattle.place.specs.Table.{Cell, refuse, close, free, judge, table, cell}
 use Rattle.record.specs.declared.event.PartnerEvent.the-variants.{Up, Loss, Timeout}
+use Rattle.place.specs.declared.phase.Phase.{Phase}
 use Rattle.place.specs.declared.phase.Phase.the-variants.{Connecting, Contacting, Open, Lost, Ending}
 use Prim.Native.Nat.{ℕ}
 use mathlib.Core.List.{List, [], _∷_}
@@ -24,3 +25,15 @@ legend =
 
 abbrev pub cellOf : ℕ → Cell
 cellOf choice = getD legend choice refuse
+
+-- the row of the table that a phase stands in
+abbrev pub rowNumber : Phase → ℕ
+rowNumber (Connecting t) = 0
+rowNumber (Contacting t) = 1
+rowNumber Open = 2
+rowNumber (Lost t) = 3
+rowNumber (Ending t) = 4
+
+-- the whole table, row by row
+abbrev pub drawn : List (List Cell)
+drawn = table (Connecting 0) ∷ table (Contacting 0) ∷ table Open ∷ table (Lost 0) ∷ table (Ending 0) ∷ []

@@ -3,4 +3,5 @@ pub mod action;
 pub mod limits;
 pub mod phase;
 pub mod place;
+pub mod table;
 pub mod turn;

@@ -2,8 +2,8 @@
 use borrow.Author.Needs.{needs}
 use mathlib.Core.Bool.{true, false}
 use Rattle.place.proofs.Cells.{judged-by}
-use Rattle.place.proofs.phase.judge.Statement.{statement}
-use Rattle.place.proofs.phase.judge.Tie as tie
+use Rattle.place.proofs.turn.judge.Statement.{statement}
+use Rattle.place.proofs.turn.judge.Tie as tie
 
 returns : tie.Need-returns
 returns c = judged-by (c .before .before .before .before .before .args .limits) _ _ _ true (c .before .before .before .before .word .ensures) (c .before .and .ensures) (c .if1 .taken)

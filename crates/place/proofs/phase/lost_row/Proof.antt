@@ -1,7 +1,0 @@
--- Cell by cell; written out, so that a wrong cell is refused here.
-use borrow.Author.Needs.{needs}
-use Rattle.place.proofs.phase.lost_row.Statement.{statement}
-use Rattle.place.proofs.phase.lost_row.Tie as tie
-
-pub lost-row-spec : {M : Type 1} → statement M
-lost-row-spec = tie.close (tie.spec (λ c. search needs) (λ c. search needs) (λ c. search needs) (λ c. search needs) (λ c. search needs) (λ c. search needs) (λ c. search needs) (λ c. search needs) (λ c. search needs) (λ c. search needs) (λ c. search needs) (λ c. search needs))
