@@ -141,6 +141,17 @@ static void cold_start_vector(void)
     state_expected(&s);
 }
 
+/* Code, count, place, phase of a step; gives the count expected. */
+static unsigned answer_expected(StepResult x)
+{
+    differ("code", x.code, u8());
+    const unsigned count = u8();
+    differ("count", x.count, count);
+    differ("place", x.place, u8());
+    differ("phase", x.phase, u8());
+    return count;
+}
+
 static void step_vector(void)
 {
     State s;
@@ -151,8 +162,7 @@ static void step_vector(void)
     const uint8_t fill = (uint8_t)u8();
     uint8_t *const actions = lend(buffer, fill);
     const StepResult x = step(&s, record, length, actions, buffer);
-    differ("code", x.code, u8());
-    differ("count", x.count, u8());
+    answer_expected(x);
     state_expected(&s);
     differ_bytes("buffer", actions, take(buffer), buffer);
     guard(buffer, fill);
@@ -243,11 +253,9 @@ static void history_vector(void)
         const uint8_t *const record = take(length);
         uint8_t *const actions = lend(ACTION_BUFFER, 0x5A);
         const StepResult x = step(&s, record, length, actions, ACTION_BUFFER);
-        differ("code", x.code, u8());
-        const unsigned count = u8();
+        const unsigned count = answer_expected(x);
         if (count > 4)
             malformed("more than four actions");
-        differ("count", x.count, count);
         differ_bytes("actions", actions, take((size_t)ACTION_BYTES * count), (size_t)ACTION_BYTES * count);
     }
     state_expected(&s);
@@ -279,11 +287,9 @@ static void mix_vector(void)
             load(&s, b);
             uint8_t *const actions = lend(ACTION_BUFFER, 0x5A);
             const StepResult x = step(&s, record, length, actions, ACTION_BUFFER);
-            differ("code", x.code, u8());
-            const unsigned count = u8();
+            const unsigned count = answer_expected(x);
             if (count > 4)
                 malformed("more than four actions");
-            differ("count", x.count, count);
             differ_bytes("actions", actions, take((size_t)ACTION_BYTES * count), (size_t)ACTION_BYTES * count);
             store(&s, after);
             differ_bytes("places", after + 8, take(28), 28);

@@ -1,7 +1,7 @@
 /* histories SEED COUNT LENGTH: random closed histories with what the model expects.
  *   H <lowest> <highest>
  *   R <record in hex, or ->
- *   A <code> <actions in hex, or -> <image of the state after the step, in hex>
+ *   A <code> <place> <phase> <actions in hex, or -> <image of the state after the step, in hex>
  * and an empty line after each history. */
 #include "gen.h"
 
@@ -56,7 +56,7 @@ int main(int argc, char **argv)
             }
             fputs("R ", stdout);
             hex(record, n);
-            printf("\nA %u ", r.code);
+            printf("\nA %u %u %u ", r.code, r.place, r.phase);
             hex(actions, (size_t)ACTION_BYTES * r.count);
             putchar(' ');
             hex(image, sizeof image);

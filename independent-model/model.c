@@ -83,24 +83,22 @@ bool sound(const State *s) { return is_sound(s); }
 
 /* ---- places ---- */
 
-/* The place of this partner, or PLACES. */
-static inline unsigned find(const State *s, uint32_t who)
+/* Where a partner stands (request Q-6). With a phase 1..5: its place and the phase of that place.
+ * With FREE: it has no place, and the place is the lowest free one, or PLACES if none is free. */
+typedef struct { unsigned place; uint8_t phase; } Found;
+
+static inline Found find(const State *s, uint32_t who)
 {
     unsigned i;
     for (i = 0; i < PLACES; i++)
         if (s->partner[i] == who && s->phase[i] != FREE)
             break;
-    return i;
-}
-
-/* The lowest free place, or PLACES. */
-static inline unsigned find_free(const State *s)
-{
-    unsigned i;
+    if (i < PLACES)
+        return (Found){i, s->phase[i]};
     for (i = 0; i < PLACES; i++)
         if (s->phase[i] == FREE)
             break;
-    return i;
+    return (Found){i, FREE};
 }
 
 static inline void set(State *s, unsigned i, uint8_t phase, uint8_t tries)
@@ -152,14 +150,40 @@ static uint8_t *end_all(State *s, uint8_t *a)
 
 /* ---- the step ---- */
 
-static inline StepResult refuse(uint8_t code) { return (StepResult){code, 0}; }
+/* An answer in the making is one number: code, count, place, phase, from its lowest byte up. It
+ * stays in one register; made of four fields, a step takes a tenth more instructions. */
+typedef uint32_t Answer;
 
-static inline StepResult done(const uint8_t *from, const uint8_t *to)
+_Static_assert(sizeof(StepResult) == sizeof(Answer), "StepResult has no padding");
+
+static inline StepResult result(Answer w)
 {
-    return (StepResult){0, (uint8_t)((unsigned)(to - from) / ACTION_BYTES)};
+#if defined __BYTE_ORDER__ && __BYTE_ORDER__ == __ORDER_LITTLE_ENDIAN__
+    StepResult r;
+    memcpy(&r, &w, sizeof r);              /* the bytes stand as the fields do */
+    return r;
+#else
+    return (StepResult){(uint8_t)w, (uint8_t)(w >> 8), (uint8_t)(w >> 16), (uint8_t)(w >> 24)};
+#endif
 }
 
-static inline StepResult order(State *s, uint32_t who, uint8_t accepting, uint8_t cause, uint8_t *a)
+static inline Answer answer(uint8_t code, unsigned count, unsigned place, uint8_t phase)
+{
+    return (Answer)phase << 24 | place << 16 | count << 8 | code;
+}
+
+/* Place 4 and phase 0: nothing to tell. */
+static inline Answer refuse(uint8_t code) { return answer(code, 0, PLACES, FREE); }
+
+/* Refusals 5 and 7 about a partner tell where it stands. */
+static inline Answer refuse_at(uint8_t code, Found at) { return answer(code, 0, at.place, at.phase); }
+
+static inline Answer done(const uint8_t *from, const uint8_t *to)
+{
+    return answer(0, (unsigned)(to - from) / ACTION_BYTES, PLACES, FREE);
+}
+
+static inline Answer order(State *s, uint32_t who, uint8_t accepting, uint8_t cause, uint8_t *a)
 {
     const bool level23 = s->level == 2 || s->level == 3;
     uint8_t *mark = NULL;                  /* the mark that acceptance clears */
@@ -174,10 +198,10 @@ static inline StepResult order(State *s, uint32_t who, uint8_t accepting, uint8_
     }
     if (!in_force)
         return refuse(4);
-    if (find(s, who) < PLACES)
-        return refuse(5);
-    const unsigned free_place = find_free(s);  /* before the closings */
-    if (free_place == PLACES)
+    const Found at = find(s, who);         /* the free place before the closings */
+    if (at.phase != FREE)
+        return refuse_at(5, at);
+    if (at.place == PLACES)
         return refuse(8);
 
     uint8_t *const from = a;
@@ -187,20 +211,20 @@ static inline StepResult order(State *s, uint32_t who, uint8_t accepting, uint8_
         for (unsigned i = 0; i < PLACES; i++)
             if ((s->phase[i] == OPEN || s->phase[i] == LOST) && s->partner[i] >> 24 == RBC)
                 a = close_place(s, i, a);
-    take(s, free_place, who, CONNECTING, OUTGOING, 1);
+    take(s, at.place, who, CONNECTING, OUTGOING, 1);
     return done(from, act(a, ACT_REQUEST, who));
 }
 
-static inline StepResult call(State *s, uint32_t who, uint8_t *a)
+static inline Answer call(State *s, uint32_t who, uint8_t *a)
 {
     if (who >> 24 == RIU)
         return refuse(9);
-    if (find(s, who) < PLACES)
-        return refuse(5);
-    const unsigned i = find_free(s);
-    if (i == PLACES)
+    const Found at = find(s, who);
+    if (at.phase != FREE)
+        return refuse_at(5, at);
+    if (at.place == PLACES)
         return refuse(8);
-    take(s, i, who, OPEN, INCOMING, 0);
+    take(s, at.place, who, OPEN, INCOMING, 0);
     return done(a, act(a, ACT_ESTABLISHED, who));
 }
 
@@ -210,7 +234,7 @@ static const uint8_t repeated[ENDING + 1] = {
     [ENDING] = ACT_TERMINATE,
 };
 
-static inline StepResult step_known(State *s, const uint8_t *r, uint8_t *a)
+static inline Answer step_known(State *s, const uint8_t *r, uint8_t *a)
 {
     uint8_t *const from = a;
     const uint8_t kind = r[0];
@@ -262,15 +286,16 @@ static inline StepResult step_known(State *s, const uint8_t *r, uint8_t *a)
             return call(s, who, a);
     }
 
-    const unsigned i = find(s, who);
-    if (i == PLACES)
+    const Found at = find(s, who);
+    if (at.phase == FREE)
         return refuse(6);
-    const uint8_t phase = s->phase[i];
+    const unsigned i = at.place;
+    const uint8_t phase = at.phase;
 
     switch (kind) {
     case EV_DROP:
         if (phase == ENDING)
-            return refuse(7);
+            return refuse_at(7, at);
         a = close_place(s, i, a);
         break;
     case EV_UP:
@@ -280,7 +305,7 @@ static inline StepResult step_known(State *s, const uint8_t *r, uint8_t *a)
         } else if (phase == LOST) {
             set(s, i, OPEN, 0);
         } else {
-            return refuse(7);
+            return refuse_at(7, at);
         }
         break;
     case EV_LOST:
@@ -290,12 +315,12 @@ static inline StepResult step_known(State *s, const uint8_t *r, uint8_t *a)
             set(s, i, LOST, 1);
             a = act(a, ACT_REQUEST, who);
         } else {
-            return refuse(7);
+            return refuse_at(7, at);
         }
         break;
     case EV_TIMEOUT:
         if (phase == OPEN)
-            return refuse(7);
+            return refuse_at(7, at);
         if (s->tries[i] < 3) {
             s->tries[i]++;
             a = act(a, repeated[phase], who);
@@ -306,11 +331,11 @@ static inline StepResult step_known(State *s, const uint8_t *r, uint8_t *a)
     default:                               /* message 32 or 39 */
         if (r[5] == 39) {
             if (phase != ENDING)
-                return refuse(7);
+                return refuse_at(7, at);
             a = release(s, i, a);
         } else {
             if (phase != CONTACTING)
-                return refuse(7);
+                return refuse_at(7, at);
             const uint8_t x = r[6] >> 4;   /* version is 16 * X + Y */
             if (s->lowest <= x && x <= s->highest) {
                 set(s, i, OPEN, 0);
@@ -328,11 +353,11 @@ static inline StepResult step_known(State *s, const uint8_t *r, uint8_t *a)
 
 StepResult step_trusted(State *s, const uint8_t *record, uint8_t *actions)
 {
-    return step_known(s, record, actions);
+    return result(step_known(s, record, actions));
 }
 
-StepResult step(State *s, const uint8_t *record, size_t length,
-                uint8_t *actions, size_t actions_length)
+static inline Answer step_tested(State *s, const uint8_t *record, size_t length,
+                                 uint8_t *actions, size_t actions_length)
 {
     if (actions_length < ACTION_BUFFER)
         return refuse(10);
@@ -345,6 +370,12 @@ StepResult step(State *s, const uint8_t *record, size_t length,
     if (length != record_length[record[0]])
         return refuse(1);
     return step_known(s, record, actions);
+}
+
+StepResult step(State *s, const uint8_t *record, size_t length,
+                uint8_t *actions, size_t actions_length)
+{
+    return result(step_tested(s, record, length, actions, actions_length));
 }
 
 /* ---- the image ---- */
@@ -426,8 +457,8 @@ static inline void run(State *s, const uint8_t *log, size_t length, size_t budge
         if (!kind_known(*record)) { stop = 3; break; }
         const uint32_t n = record_length[*record];
         if (length - at < n) { stop = 2; break; }
-        const StepResult r = checked ? step(s, record, n, actions, sizeof actions)
-                                     : step_known(s, record, actions);
+        const StepResult r = result(checked ? step_tested(s, record, n, actions, sizeof actions)
+                                            : step_known(s, record, actions));
         at += n;
         read++;
         if (r.code != 0)

@@ -44,6 +44,8 @@ typedef struct {
 typedef struct {
     uint8_t code;            /* 0 or the refusal */
     uint8_t count;           /* actions written, 0 if refused */
+    uint8_t place;           /* refusal 5, and 7 of an event that names a partner: the partner's */
+    uint8_t phase;           /* place and its phase before the step; any other answer: 4 and 0 */
 } StepResult;
 
 typedef struct {

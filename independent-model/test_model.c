@@ -40,6 +40,21 @@ static void hold(State *s, int i, uint8_t phase, uint8_t direction, uint8_t trie
     s->partner[i] = who;
 }
 
+/* Request Q-6: the place and the phase that a step with this code tells, by the state before. */
+static bool tells(const State *before, const uint8_t *record, StepResult r)
+{
+    unsigned place = 4, phase = 0;
+    if (r.code == 5 || (r.code == 7 && record[0] != 4))
+        for (place = 0; place < 4; place++) {
+            const uint32_t p = before->partner[place];
+            phase = before->phase[place];
+            if (phase != 0 && p >> 24 == record[1] && (p >> 16 & 255) == record[2] &&
+                (p >> 8 & 255) == record[3] && (p & 255) == record[4])
+                break;
+        }
+    return r.place == place && r.phase == phase;
+}
+
 /* Steps a record with a buffer of 29 bytes of EE, checks code and actions ("number partner"
  * pairs), that no later byte was written, and that a refusal changes nothing. */
 static bool takes(State *s, const uint8_t *record, size_t n, int code, int count, ...)
@@ -48,7 +63,7 @@ static bool takes(State *s, const uint8_t *record, size_t n, int code, int count
     memset(buffer, 0xEE, sizeof buffer);
     const State before = *s;
     const StepResult r = step(s, record, n, buffer, sizeof buffer);
-    bool ok = r.code == code && r.count == count;
+    bool ok = r.code == code && r.count == count && tells(&before, record, r);
     va_list list;
     va_start(list, count);
     uint8_t want[29];
@@ -66,6 +81,15 @@ static bool takes(State *s, const uint8_t *record, size_t n, int code, int count
     if (code != 0)
         ok = ok && same(&before, s);
     return ok;
+}
+
+/* A refusal with this place and this phase. */
+static bool refuses(State *s, const uint8_t *record, size_t n, int code, int place, int phase)
+{
+    uint8_t buffer[20];
+    const State before = *s;
+    const StepResult r = step(s, record, n, buffer, sizeof buffer);
+    return r.code == code && r.count == 0 && r.place == place && r.phase == phase && same(&before, s);
 }
 
 #define REC(...) ((const uint8_t[]){__VA_ARGS__}), sizeof((const uint8_t[]){__VA_ARGS__})
@@ -111,7 +135,7 @@ static bool slow_sound(const uint8_t *b)
 
 /* ---- a slow, literal step, over the 37 bytes of an image; written apart from the model ---- */
 
-typedef struct { int code, count; uint8_t a[20]; } Slow;
+typedef struct { int code, count, place, phase; uint8_t a[20]; } Slow;
 
 static void slow_act(Slow *w, int number, const uint8_t *who)
 {
@@ -156,8 +180,9 @@ static const char *const slow_table[6][6] = {
 static Slow slow_step(uint8_t *b, const uint8_t *r, size_t n, size_t buffer)
 {
     static const int length[12] = {0, 3, 2, 1, 2, 7, 5, 2, 5, 5, 5, 7};
-    Slow w = {0, 0, {0}};
+    Slow w = {0, 0, 4, 0, {0}};
 #define NO(c) do { w.code = (c); return w; } while (0)
+#define NO_AT(c, i) do { w.place = (i); w.phase = b[9 + 7 * (i)]; NO(c); } while (0)
     if (buffer < 20) NO(10);
     if (!slow_sound(b)) NO(11);
     if (n == 0) NO(1);
@@ -213,7 +238,7 @@ static Slow slow_step(uint8_t *b, const uint8_t *r, size_t n, size_t buffer)
         if (r[6] == 2 && !(*mission != 0 && l23 && *mode == 1)) NO(4);
         if (r[6] == 3 && !(l23 && *manual == 1)) NO(4);
         if (r[6] == 4 && *hole_end != 1) NO(4);
-        if (mine >= 0) NO(5);
+        if (mine >= 0) NO_AT(5, mine);
         if (empty < 0) NO(8);
         if (r[6] == 2) *mode = 0;
         if (r[6] == 3) *manual = 0;
@@ -244,7 +269,7 @@ static Slow slow_step(uint8_t *b, const uint8_t *r, size_t n, size_t buffer)
         if (r[5] != 32 && r[6] != 0) NO(3);
         if (r[5] == 38) {
             if (r[1] == 1) NO(9);
-            if (mine >= 0) NO(5);
+            if (mine >= 0) NO_AT(5, mine);
             if (empty < 0) NO(8);
             uint8_t *p = b + 9 + 7 * empty;
             p[0] = 3;
@@ -260,7 +285,7 @@ static Slow slow_step(uint8_t *b, const uint8_t *r, size_t n, size_t buffer)
     if (mine < 0) NO(6);
     uint8_t *p = b + 9 + 7 * mine;
     const char *cell = slow_table[p[0]][column];
-    if (strcmp(cell, "no") == 0) NO(7);
+    if (strcmp(cell, "no") == 0) NO_AT(7, mine);
     if (strcmp(cell, "close") == 0) {
         slow_close(&w, p);
     } else if (strcmp(cell, "155;C1") == 0) {
@@ -299,6 +324,7 @@ static Slow slow_step(uint8_t *b, const uint8_t *r, size_t n, size_t buffer)
         }
     }
     return w;
+#undef NO_AT
 #undef NO
 }
 
@@ -311,7 +337,8 @@ static bool agree(State *s, const uint8_t *r, size_t n)
     const Slow w = slow_step(image, r, n, 20);
     const StepResult got = step(s, r, n, buffer, 20);
     image_store(s, after);
-    bool ok = got.code == w.code && got.count == w.count && memcmp(image, after, 37) == 0 &&
+    bool ok = got.code == w.code && got.count == w.count && got.place == w.place &&
+              got.phase == w.phase && memcmp(image, after, 37) == 0 &&
               memcmp(buffer, w.a, 5u * (unsigned)w.count) == 0;
     for (size_t i = 5u * (unsigned)w.count; i < sizeof buffer; i++)
         ok = ok && buffer[i] == 0x77;
@@ -376,6 +403,10 @@ static void examples(void)
     CHECK(takes(&s, REC(11, P(5u), 38, 0), 8, 0));
     CHECK(takes(&s, REC(11, P(1u), 38, 0), 5, 0));
     CHECK(takes(&s, REC(11, P(RIU_(1u)), 38, 0), 9, 0));
+    CHECK(refuses(&s, REC(11, P(5u), 38, 0), 8, 4, 0));
+    for (unsigned i = 1; i <= 4; i++) CHECK(refuses(&s, REC(11, P(i), 38, 0), 5, (int)i - 1, 3));
+    CHECK(refuses(&s, REC(11, P(RIU_(1u)), 38, 0), 9, 4, 0));
+    CHECK(refuses(&s, REC(4, 0), 7, 4, 0));
 
     /* P7 */
     s = cold(1, 2);
@@ -1080,11 +1111,17 @@ static void random_steps(void)
                 uint8_t b[20];
                 const StepResult y = step_trusted(&before, r, b);
                 CHECK(y.code == 0 && y.count == x.count && same(&before, &s) && memcmp(a, b, 5u * x.count) == 0);
+                CHECK(x.place == 4 && x.phase == 0 && y.place == 4 && y.phase == 0);
                 orders_in += r[0] == 5;
                 calls_in += r[0] == 11 && r[5] == 38;
                 losses += r[0] == 9;
                 actions += x.count;
                 for (unsigned i = 0; i < x.count; i++) releases += a[5 * i] == 22;
+            }
+            if (x.code >= 3) {                  /* of a known kind and its length: trusted too */
+                uint8_t b[20];
+                const StepResult y = step_trusted(&before, r, b);
+                CHECK(memcmp(&x, &y, sizeof x) == 0 && same(&before, &s));
             }
             /* the property of demand, after each step */
             unsigned long held = 0;

@@ -2,11 +2,14 @@
  *   vectors list                     the number of vectors and bytes of each group
  *   vectors write FILE               all vectors
  *   vectors write-small FILE SPOIL   a few of each group; SPOIL k > 0: one byte of an
- *                                    expectation of the k-th vector of the file is wrong
+ *                                    expectation of the k-th vector of the file is wrong;
+ *                                    1000 + k: its place byte, 2000 + k: its phase byte
  *
  * A vector is the length of its body (2 bytes, big-endian) and the body: group, operation,
- * operands, expectations. Where the code to be expected was written down by hand here, it is
- * compared with the model's; a difference ends the program. */
+ * operands, expectations. What a step answers stands as code, count, place, phase (request Q-6)
+ * in this order. Where the code, or the place and phase, to be expected were written down by hand
+ * here, they are compared with the model's; place and phase of every step are compared with a
+ * plain second reading too. A difference ends the program. */
 #include "gen.h"
 
 #include <stdio.h>
@@ -14,6 +17,7 @@
 #include <string.h>
 
 enum { GROUPS = 9, BODY_MOST = 8000, STATE_BYTES = IMAGE_BYTES - 1, ANY = 255 };
+enum { SPOIL_PLACE = 1000, SPOIL_PHASE = 2000 };
 enum { OP_COLD = 1, OP_STEP, OP_WRITE, OP_READ, OP_RUN, OP_LONG, OP_HISTORY, OP_MIX, OPS = OP_MIX };
 
 typedef struct {
@@ -22,6 +26,9 @@ typedef struct {
     uint32_t code_at;           /* in the body: an expected code */
     uint32_t action_at;         /* an action's number or a byte of a total, 0: none */
     uint32_t state_at;          /* a byte of an expected state that may be any, 0: none */
+    uint32_t place_at;          /* an expected place, the phase behind it, 0: none; of a refusal
+                                 * that tells where the partner stands, if there is one */
+    bool tells;                 /* it is of such a refusal */
 } Vector;
 
 static uint8_t bytes[4u << 20];
@@ -130,6 +137,49 @@ static void compare(unsigned got, unsigned want)
     }
 }
 
+/* Request Q-6, read off the image before the step and the record's bytes: 5, and 7 of an event
+ * that is no hole, tell the one place that holds the record's partner, and its phase; every
+ * other answer tells 4 and 0. A check on the model, which carries them along from its search. */
+static void plainly_standing(const uint8_t *image, const uint8_t *r, unsigned code, unsigned told[2])
+{
+    unsigned places = 0;
+    told[0] = 4;
+    told[1] = 0;
+    if (code != 5 && code != 7)
+        return;
+    if (r[0] == EV_HOLE)
+        return;
+    for (unsigned i = 4; i-- > 0;) {
+        const uint8_t *const p = image + 9 + 7 * i;
+        if (p[0] != 0 && p[3] == r[1] && p[4] == r[2] && p[5] == r[3] && p[6] == r[4]) {
+            told[0] = i;
+            told[1] = p[0];
+            places++;
+        }
+    }
+    if (places != 1)
+        fail("5 or 7, but the partner has not one place");
+}
+
+/* What a step answered; 'before' is the state that it was given. */
+static void answer(const State *before, const uint8_t *r, StepResult x)
+{
+    uint8_t image[IMAGE_BYTES];
+    unsigned told[2];
+    image_store(before, image);
+    plainly_standing(image, r, x.code, told);
+    if (x.place != told[0] || x.phase != told[1])
+        fail("place or phase");
+    u8(x.code);
+    u8(x.count);
+    if (now.place_at == 0 || (!now.tells && x.place < PLACES)) {
+        now.place_at = (uint32_t)n;
+        now.tells = x.place < PLACES;
+    }
+    u8(x.place);
+    u8(x.phase);
+}
+
 /* ---- one vector of each operation ---- */
 
 static void cold_vector(int group, unsigned lowest, unsigned highest, unsigned want)
@@ -145,8 +195,11 @@ static void cold_vector(int group, unsigned lowest, unsigned highest, unsigned w
     end();
 }
 
+/* Expected by hand: the code, place and phase (ANY: not by hand). */
+typedef struct { unsigned code, place, phase; } Hand;
+
 static uint8_t step_in(int group, const State *s, const uint8_t *r, size_t length,
-                       size_t buffer, unsigned fill, unsigned want)
+                       size_t buffer, unsigned fill, Hand want)
 {
     uint8_t actions[256];
     State after = *s;
@@ -158,14 +211,16 @@ static uint8_t step_in(int group, const State *s, const uint8_t *r, size_t lengt
     u8(fill);
     memset(actions, (int)fill, sizeof actions);
     const StepResult x = step(&after, r, length, actions, buffer);
-    compare(x.code, want);
+    compare(x.code, want.code);
+    if ((want.place != ANY && want.place != x.place) || (want.phase != ANY && want.phase != x.phase))
+        fail("another place or phase by hand");
     for (size_t i = x.code == 0 ? (size_t)ACTION_BYTES * x.count : 0; i < sizeof actions; i++)
         if (actions[i] != (uint8_t)fill)
             fail("a byte that is not an action's was written");
     if (x.code != 0 && (x.count != 0 || !same(s, &after)))
         fail("a refused step changed something");
-    code(x.code);
-    u8(x.count);
+    now.code_at = (uint32_t)n;
+    answer(s, r, x);
     state_expected(&after);
     if (x.count > 0)
         now.action_at = (uint32_t)n;
@@ -182,7 +237,16 @@ static unsigned next_fill(void)
     return fills[k++ % sizeof fills];
 }
 
-static void step_vector(int group, const State *s, const uint8_t *r, size_t length, unsigned want)
+/* A code that tells nothing. */
+static Hand untold(unsigned want) { return (Hand){want, 4, 0}; }
+
+/* A code; where the partner stands is left to the plain reading if it is 5 or 7. */
+static Hand only(unsigned want)
+{
+    return want == 5 || want == 7 ? (Hand){want, ANY, ANY} : untold(want);
+}
+
+static void step_vector(int group, const State *s, const uint8_t *r, size_t length, Hand want)
 {
     step_in(group, s, r, length, ACTION_BUFFER, next_fill(), want);
 }
@@ -322,14 +386,13 @@ static void history_vector(int group, Rng *g, unsigned records)
     for (unsigned k = 0; k < records; k++) {
         uint8_t r[GEN_MOST], actions[ACTION_BUFFER];
         const size_t length = gen_record(g, &s, false, r);
+        const State before = s;
         const StepResult x = step(&s, r, length, actions, sizeof actions);
         u8((unsigned)length);
         raw(r, length);
         if (k <= records / 2)
-            code(x.code);
-        else
-            u8(x.code);
-        u8(x.count);
+            now.code_at = (uint32_t)n;
+        answer(&before, r, x);
         if (x.count > 0 && now.action_at == 0)
             now.action_at = (uint32_t)n;
         raw(actions, (size_t)ACTION_BYTES * x.count);
@@ -372,12 +435,11 @@ static void mix_vector(int group, const uint8_t head[8], const uint8_t p0[7], co
             image_load(&s, image);
             if (!sound(&s))
                 fail("a mix is not sound");
+            const State before = s;
             const StepResult x = step(&s, r, length, actions, sizeof actions);
             if (j <= 5)
-                code(x.code);
-            else
-                u8(x.code);
-            u8(x.count);
+                now.code_at = (uint32_t)n;
+            answer(&before, r, x);
             if (x.count > 0 && j <= 5)
                 now.action_at = (uint32_t)n;
             raw(actions, (size_t)ACTION_BYTES * x.count);
@@ -469,7 +531,21 @@ static Rec rec7(unsigned k, uint32_t who, unsigned a, unsigned b)
 static Rec order_of(uint32_t who, unsigned accepting, unsigned cause) { return rec7(5, who, accepting, cause); }
 static Rec message_of(uint32_t who, unsigned number, unsigned version) { return rec7(11, who, number, version); }
 
-static void step_rec(int group, const State *s, Rec r, unsigned want) { step_vector(group, s, r.b, r.n, want); }
+static void step_rec(int group, const State *s, Rec r, unsigned want)
+{
+    step_vector(group, s, r.b, r.n, only(want));
+}
+
+/* Place and phase by hand, as they are told with 5 and 7; 4 and 0 with any other code. */
+static void told_rec(int group, const State *s, Rec r, unsigned want, unsigned place, unsigned phase)
+{
+    step_vector(group, s, r.b, r.n, want == 5 || want == 7 ? (Hand){want, place, phase} : untold(want));
+}
+
+static void untold_rec(int group, const State *s, Rec r, unsigned want)
+{
+    step_vector(group, s, r.b, r.n, untold(want));
+}
 
 enum {
     A = 0x00010203, A_RIU = 0x01010203,     /* one number, two partners */
@@ -489,6 +565,32 @@ static State full_state(void)
     hold(&s, 3, A_3, CONTACTING, OUTGOING, 3);
     return s;
 }
+
+/* A state for request Q-6: 'who' in this place and form, and around it, in phases other than its
+ * own and different from each other, its number with the other type and two strangers. 'around':
+ * 0 all places taken, the same number just below (place 0: in place 3); 1 the place just below
+ * free; 2 the second place below free; 3 'who' alone. */
+enum { AROUNDS = 4 };
+
+static State standing(uint32_t who, unsigned place, unsigned f, unsigned around)
+{
+    State s = with_x(1, 2);
+    const uint32_t others[3] = {who ^ 0x01000000, 0x00000777, 0x01000778};
+    unsigned k = 0;
+    hold_form(&s, place, who, f);
+    for (unsigned down = 1; down < PLACES && around < 3; down++) {
+        if (down == around)
+            continue;
+        const unsigned phase = (s.phase[place] + (f + place + k) % 4) % 5 + 1;
+        hold(&s, (place + PLACES - down) % PLACES, others[k], phase, OUTGOING,
+             phase == OPEN ? 0 : (f + k) % 3 + 1);
+        k++;
+    }
+    return s;
+}
+
+/* The forms 0, 2, 7, 3, 4 have the phases 1 to 5. */
+static const uint8_t form_of_phase[ENDING + 1] = {0, 0, 2, 7, 3, 4};
 
 /* ---- group 1: cells ---- */
 
@@ -514,6 +616,25 @@ static void version_edges(const State *s, uint32_t who)
     step_rec(1, s, message_of(who, 32, 16u * s->highest + 15), 0);
     if (s->highest < 7)
         step_rec(1, s, message_of(who, 32, 16u * s->highest + 16), 0);
+}
+
+/* Request Q-6: each "no" of the table in each place, direction and number of tries. */
+static void cells_told(void)
+{
+    for (unsigned place = 0; place < PLACES; place++)
+        for (unsigned type = RBC; type <= RIU; type++)
+            for (unsigned f = 0; f < 20; f++)
+                for (unsigned around = 0; around < AROUNDS; around++) {
+                    const uint32_t who = type == RBC ? A : A_RIU;
+                    const unsigned phase = form[f].phase;
+                    if (type == RIU && form[f].direction != 0)
+                        continue;
+                    State s = standing(who, place, f, around);
+                    set_head(&s, f + 5 * around + 3 * place);
+                    for (unsigned c = 0; c < 7; c++)
+                        if (cell_code[phase][c] == 7 && (c + around + f / 2) % 2 == 0)
+                            told_rec(1, &s, column(c, who, c == 4 ? 0x11 : 0x30), 7, place, phase);
+                }
 }
 
 static void cells(void)
@@ -547,7 +668,8 @@ static void cells(void)
                         const unsigned bad = s.highest == 7 || (s.lowest > 0 && (k & 2))
                                                  ? 16u * s.lowest - 1 - y : 16u * s.highest + 16 + y;
                         set_head(&s, k++);
-                        step_rec(1, &s, column(c, who, c == 4 ? good : bad), cell_code[form[f].phase][c]);
+                        told_rec(1, &s, column(c, who, c == 4 ? good : bad), cell_code[form[f].phase][c],
+                                 place, form[f].phase);
                     }
                     if (among && form[f].phase == CONTACTING)
                         version_edges(&s, who);
@@ -574,7 +696,7 @@ static void cells(void)
             s = with_x(1, 2);
             hold_form(&s, 3, edge[e], first[f]);
             for (unsigned c = 0; c < 7; c++)
-                step_rec(1, &s, column(c, edge[e], c == 4 ? 0x11 : 0x30), cell_code[f + 1][c]);
+                told_rec(1, &s, column(c, edge[e], c == 4 ? 0x11 : 0x30), cell_code[f + 1][c], 3, f + 1);
             hold_form(&s, 3, A, first[f]);
             step_rec(1, &s, column(f, edge[e], 0x11), 6);
             step_rec(1, &s, column(6, edge[e], 0), 6);
@@ -593,11 +715,13 @@ static void cells(void)
             step_rec(1, &s, order_of(turn == 2 ? 0 : A, 1, 1), held == 15 ? 8 : 0);
             step_rec(1, &s, order_of(turn == 2 ? 0x01FFFFFF : NEW_RIU, turn & 1, 1), held == 15 ? 8 : 0);
         }
+
+    cells_told();
 }
 
 /* ---- group 2: refusals ---- */
 
-typedef struct { State s; Rec r; uint8_t code; } Case;
+typedef struct { State s; Rec r; uint8_t code, place, phase; } Case;
 
 /* Steps refused for one reason only. */
 static size_t single_refusals(Case *out)
@@ -610,37 +734,37 @@ static size_t single_refusals(Case *out)
     set_marks(&full, 7);
     in.inside = 1;
 
-    out[c++] = (Case){some, rec0(), 1};
-    out[c++] = (Case){some, rec1(0), 2};
-    out[c++] = (Case){some, rec5(12, A), 2};
-    out[c++] = (Case){some, rec7(255, A, 0, 0), 2};
-    out[c++] = (Case){some, rec2(EV_LEVEL, 3), 1};
-    out[c++] = (Case){some, rec2(EV_MODE, 0), 1};
-    out[c++] = (Case){some, rec5(EV_MESSAGE, A), 1};
-    out[c++] = (Case){some, rec3(EV_LEVEL, 5, 0), 3};
-    out[c++] = (Case){some, rec3(EV_LEVEL, 3, 2), 3};
-    out[c++] = (Case){some, rec2(EV_MISSION, 3), 3};
-    out[c++] = (Case){some, rec2(EV_END_ALL, 2), 3};
-    out[c++] = (Case){some, order_of(NEW, 2, 1), 3};
-    out[c++] = (Case){none, order_of(NEW, 1, 0), 4};
-    out[c++] = (Case){some, order_of(NEW, 0, 4), 4};
-    out[c++] = (Case){some, order_of(A, 0, 1), 5};
-    out[c++] = (Case){some, order_of(A_RIU, 0, 3), 5};
-    out[c++] = (Case){full, order_of(NEW, 0, 1), 8};
-    out[c++] = (Case){full, order_of(NEW_RIU, 1, 3), 8};
-    out[c++] = (Case){some, message_of(NEW_RIU, 38, 0), 9};
-    out[c++] = (Case){some, message_of(A, 38, 0), 5};
-    out[c++] = (Case){full, message_of(NEW, 38, 0), 8};
+    out[c++] = (Case){some, rec0(), 1, 4, 0};
+    out[c++] = (Case){some, rec1(0), 2, 4, 0};
+    out[c++] = (Case){some, rec5(12, A), 2, 4, 0};
+    out[c++] = (Case){some, rec7(255, A, 0, 0), 2, 4, 0};
+    out[c++] = (Case){some, rec2(EV_LEVEL, 3), 1, 4, 0};
+    out[c++] = (Case){some, rec2(EV_MODE, 0), 1, 4, 0};
+    out[c++] = (Case){some, rec5(EV_MESSAGE, A), 1, 4, 0};
+    out[c++] = (Case){some, rec3(EV_LEVEL, 5, 0), 3, 4, 0};
+    out[c++] = (Case){some, rec3(EV_LEVEL, 3, 2), 3, 4, 0};
+    out[c++] = (Case){some, rec2(EV_MISSION, 3), 3, 4, 0};
+    out[c++] = (Case){some, rec2(EV_END_ALL, 2), 3, 4, 0};
+    out[c++] = (Case){some, order_of(NEW, 2, 1), 3, 4, 0};
+    out[c++] = (Case){none, order_of(NEW, 1, 0), 4, 4, 0};
+    out[c++] = (Case){some, order_of(NEW, 0, 4), 4, 4, 0};
+    out[c++] = (Case){some, order_of(A, 0, 1), 5, 0, OPEN};
+    out[c++] = (Case){some, order_of(A_RIU, 0, 3), 5, 1, OPEN};
+    out[c++] = (Case){full, order_of(NEW, 0, 1), 8, 4, 0};
+    out[c++] = (Case){full, order_of(NEW_RIU, 1, 3), 8, 4, 0};
+    out[c++] = (Case){some, message_of(NEW_RIU, 38, 0), 9, 4, 0};
+    out[c++] = (Case){some, message_of(A, 38, 0), 5, 0, OPEN};
+    out[c++] = (Case){full, message_of(NEW, 38, 0), 8, 4, 0};
     for (unsigned k = 0; k < 7; k++)
-        out[c++] = (Case){some, column(k, NEW, 0x11), 6};
+        out[c++] = (Case){some, column(k, NEW, 0x11), 6, 4, 0};
     for (unsigned k = 0; k < 7; k++) {
         State s = some;                    /* a phase that does not take this event */
         const unsigned phase[7] = {ENDING, OPEN, LOST, OPEN, OPEN, LOST, CONTACTING};
         hold(&s, 3, A_3, phase[k], OUTGOING, phase[k] == OPEN ? 0 : 2);
-        out[c++] = (Case){s, column(k, A_3, k == 4 ? 0x11 : 0x30), 7};
+        out[c++] = (Case){s, column(k, A_3, k == 4 ? 0x11 : 0x30), 7, 3, (uint8_t)phase[k]};
     }
-    out[c++] = (Case){in, rec2(EV_HOLE, 1), 7};
-    out[c++] = (Case){none, rec2(EV_HOLE, 0), 7};
+    out[c++] = (Case){in, rec2(EV_HOLE, 1), 7, 4, 0};
+    out[c++] = (Case){none, rec2(EV_HOLE, 0), 7, 4, 0};
     return c;
 }
 
@@ -664,14 +788,14 @@ static void step_refusals(void)
         const Case *const x = &cases[i];
         State s;
         Rec r = x->r;
-        step_rec(2, &x->s, r, x->code);
-        step_in(2, &x->s, r.b, r.n, i % 3 ? 19 : 0, next_fill(), 10);
+        step_vector(2, &x->s, r.b, r.n, (Hand){x->code, x->place, x->phase});
+        step_in(2, &x->s, r.b, r.n, i % 3 ? 19 : 0, next_fill(), untold(10));
         for (unsigned how = (unsigned)i % 2; how < 4; how += 2) {
             s = unsound(x->s, how);
             step_rec(2, &s, r, 11);
         }
         s = unsound(x->s, (unsigned)i % 5);
-        step_in(2, &s, r.b, r.n, (unsigned)i % 20, next_fill(), 10);
+        step_in(2, &s, r.b, r.n, (unsigned)i % 20, next_fill(), untold(10));
         if (x->code < 3)
             continue;
         r.n--;                             /* the rest as before: the length comes first */
@@ -682,12 +806,12 @@ static void step_refusals(void)
 
     /* sound, accepted, but for the buffer or the state alone */
     State s = full_state();
-    step_in(2, &s, rec5(EV_DROP, A).b, 5, 19, next_fill(), 10);
-    step_in(2, &s, rec5(EV_DROP, A).b, 5, 0, next_fill(), 10);
+    step_in(2, &s, rec5(EV_DROP, A).b, 5, 19, next_fill(), untold(10));
+    step_in(2, &s, rec5(EV_DROP, A).b, 5, 0, next_fill(), untold(10));
     for (unsigned how = 0; how < 5; how++) {
         const State u = unsound(s, how);
         step_rec(2, &u, rec5(EV_DROP, A_1), 11);
-        step_in(2, &u, rec5(EV_DROP, A_1).b, 5, 19, next_fill(), 10);
+        step_in(2, &u, rec5(EV_DROP, A_1).b, 5, 19, next_fill(), untold(10));
     }
 }
 
@@ -778,11 +902,12 @@ static void step_pairs(void)
         for (unsigned place = 0; place < PLACES; place++) {
             State s = full_state();
             set_marks(&s, 7);
-            step_rec(2, &s, order_of(s.partner[place], place & 1, cause), 5);
+            const uint8_t phase = (uint8_t[]){OPEN, OPEN, LOST, CONTACTING}[place];
+            told_rec(2, &s, order_of(s.partner[place], place & 1, cause), 5, place, phase);
             step_rec(2, &s, order_of(place & 1 ? NEW : NEW_RIU, place >> 1, cause), 8);
             const uint32_t who = s.partner[place];
             vacate(&s, (place + 1 + cause) % 4 == place ? (place + 1) % 4 : (place + 1 + cause) % 4);
-            step_rec(2, &s, order_of(who, place >> 1, cause), 5);
+            told_rec(2, &s, order_of(who, place >> 1, cause), 5, place, phase);
         }
     /* 5 for each phase and type: order, and 38 (9 for an RIU, before 5) */
     for (unsigned f = 0; f < 12; f++)
@@ -790,8 +915,9 @@ static void step_pairs(void)
             State s = with_x(1, 2);
             const uint32_t who = type == RBC ? A : A_RIU;
             hold_form(&s, (f + type) % 4, who, f);
-            step_rec(2, &s, order_of(who, f & 1, 1), 5);
-            step_rec(2, &s, message_of(who, 38, 0), type == RIU ? 9 : 5);
+            const unsigned place = (f + type) % 4, phase = s.phase[place];
+            told_rec(2, &s, order_of(who, f & 1, 1), 5, place, phase);
+            told_rec(2, &s, message_of(who, 38, 0), type == RIU ? 9 : 5, place, phase);
         }
     /* 9 before 8, before 5 and 8; 5 before 8 */
     for (unsigned place = 0; place < PLACES; place++) {
@@ -800,15 +926,155 @@ static void step_pairs(void)
         step_rec(2, &s, message_of(0x01777777, 38, 0), 9);
         step_rec(2, &s, message_of(NEW_RIU, 38, 0), 9);
         hold(&s, place, NEW, LOST, INCOMING, 3);
-        step_rec(2, &s, message_of(NEW, 38, 0), 5);
+        told_rec(2, &s, message_of(NEW, 38, 0), 5, place, LOST);
         step_rec(2, &s, message_of(0x00777777, 38, 0), 8);
     }
+}
+
+/* The first column that a phase does not take. */
+static Rec not_taken(unsigned phase, uint32_t who)
+{
+    unsigned c = 0;
+    while (cell_code[phase][c] != 7)
+        c++;
+    return column(c, who, 0x11);
+}
+
+/* Request Q-6: 1 to 4 and 9 to 11 tell 4 and 0 although the partner of the record has a place. */
+static void untold_held(const State *s, unsigned place)
+{
+    const uint32_t who = s->partner[place];
+    const unsigned phase = s->phase[place];
+    const Rec none = not_taken(phase, who);
+    Rec r;
+
+    untold_rec(2, s, rec0(), 1);
+    r = none;
+    r.n--;
+    untold_rec(2, s, r, 1);
+    r = order_of(who, 1, 1);
+    r.n++;
+    untold_rec(2, s, r, 1);
+    r = message_of(who, 38, 0);
+    r.n--;
+    untold_rec(2, s, r, 1);
+    untold_rec(2, s, rec5(0, who), 2);
+    untold_rec(2, s, rec7(12 + place, who, 1, 1), 2);
+    untold_rec(2, s, order_of(who, 2, 1), 3);
+    untold_rec(2, s, order_of(who, 1, 5), 3);
+    untold_rec(2, s, message_of(who, 38, 1), 3);
+    untold_rec(2, s, message_of(who, 32, 128), 3);
+    untold_rec(2, s, message_of(who, 40, 0), 3);
+    untold_rec(2, s, rec5(EV_UP, who | 0x02000000), 3);
+    untold_rec(2, s, order_of(who, 1, 3), 4);
+    untold_rec(2, s, order_of(who, 0, 4), 4);
+    if (who >> 24 == RIU)
+        untold_rec(2, s, message_of(who, 38, 0), 9);
+    step_in(2, s, none.b, none.n, 19, next_fill(), untold(10));
+    step_in(2, s, order_of(who, 1, 1).b, 7, place, next_fill(), untold(10));
+    for (unsigned how = place % 2; how < 4; how += 2) {
+        const State u = unsound(*s, how);
+        untold_rec(2, &u, none, 11);
+        untold_rec(2, &u, order_of(who, 1, 1), 11);
+        step_in(2, &u, none.b, none.n, 19, next_fill(), untold(10));
+    }
+}
+
+/* 5 and 7 about a partner tell its place; 7 of a hole, 6 and 8 do not, whoever stands where. */
+static void told_held(State s, unsigned place)
+{
+    const uint32_t who = s.partner[place], twin = who ^ 0x01000000;
+    const unsigned phase = s.phase[place], other = (place + 3) % 4;
+
+    told_rec(2, &s, order_of(who, 1, 1), 5, place, phase);
+    told_rec(2, &s, order_of(who, 0, 2), 5, place, phase);
+    if (who >> 24 == RBC)
+        told_rec(2, &s, message_of(who, 38, 0), 5, place, phase);
+    told_rec(2, &s, not_taken(phase, who), 7, place, phase);
+    untold_rec(2, &s, rec2(EV_HOLE, 0), 7);
+    s.inside = 1;
+    untold_rec(2, &s, rec2(EV_HOLE, 1), 7);
+    s.inside = 0;
+
+    hold(&s, other, who ^ 0x00000080, phase % 5 + 1, OUTGOING, phase % 5 + 1 == OPEN ? 0 : 3);
+    for (unsigned i = 0; i < PLACES; i++)
+        if (s.phase[i] != FREE && s.partner[i] == twin)
+            vacate(&s, i);
+    for (unsigned c = phase % 2; c < 7; c += 2)
+        untold_rec(2, &s, column(c, twin, 0x11), 6);
+    for (unsigned i = 0; i < PLACES; i++)
+        if (s.phase[i] == FREE)
+            hold(&s, i, 0x00000880 + i, (phase + i) % 5 + 1, OUTGOING, (phase + i) % 5 + 1 == OPEN ? 0 : 2);
+    untold_rec(2, &s, column(phase % 7, twin, 0x11), 6);
+    untold_rec(2, &s, order_of(twin, 1, 1), 8);
+    untold_rec(2, &s, order_of(who ^ 0x00008000, 0, 2), 8);
+    untold_rec(2, &s, message_of((who & 0xFFFFFF) ^ 0x00800000, 38, 0), 8);
+    if (twin >> 24 == RIU)
+        untold_rec(2, &s, message_of(twin, 38, 0), 9);
+}
+
+/* P5, P6 and P9 of document 01, the states written by hand. */
+static void marked(void)
+{
+    State s = with_x(1, 2);
+    for (unsigned i = 1; i <= PLACES; i++) {
+        untold_rec(2, &s, message_of(i, 38, 0), 0);
+        hold(&s, i - 1, i, OPEN, INCOMING, 0);
+        for (unsigned k = 1; k <= i; k++)
+            told_rec(2, &s, message_of(k, 38, 0), 5, k - 1, 3);
+    }
+    untold_rec(2, &s, message_of(5, 38, 0), 8);
+    told_rec(2, &s, message_of(1, 38, 0), 5, 0, 3);
+    told_rec(2, &s, message_of(2, 38, 0), 5, 1, 3);
+    told_rec(2, &s, message_of(3, 38, 0), 5, 2, 3);
+    told_rec(2, &s, message_of(4, 38, 0), 5, 3, 3);
+    untold_rec(2, &s, message_of(0x01000001, 38, 0), 9);
+    untold_rec(2, &s, rec2(EV_HOLE, 0), 7);            /* with the four places held */
+    untold_rec(2, &s, rec2(EV_HOLE, 1), 0);
+    s.inside = 1;
+    untold_rec(2, &s, rec2(EV_HOLE, 1), 7);
+    untold_rec(2, &s, rec2(EV_HOLE, 0), 0);
+
+    s = with_x(1, 2);
+    untold_rec(2, &s, rec2(EV_HOLE, 0), 7);
+    untold_rec(2, &s, rec2(EV_HOLE, 1), 0);
+    s.inside = 1;
+    untold_rec(2, &s, rec2(EV_HOLE, 0), 0);
+    s.inside = 0;
+    s.hole_end = 1;
+    untold_rec(2, &s, order_of(3, 1, 4), 0);
+    s.hole_end = 0;
+    hold(&s, 0, 3, CONNECTING, OUTGOING, 1);
+    untold_rec(2, &s, order_of(4, 1, 4), 4);
+    untold_rec(2, &s, order_of(3, 1, 4), 4);           /* 4 before 5 */
+    untold_rec(2, &s, rec2(EV_HOLE, 0), 7);
+}
+
+static void standing_refusals(void)
+{
+    marked();
+    for (unsigned place = 0; place < PLACES; place++)
+        for (unsigned phase = CONNECTING; phase <= ENDING; phase++) {
+            const unsigned turn = 5 * place + phase;
+            const unsigned tries = phase == OPEN ? 0 : turn % 3 + 1;
+            for (unsigned type = RBC; type <= RIU; type++) {
+                State s = standing(type == RBC ? A : A_RIU, place, form_of_phase[phase], turn % AROUNDS);
+                s.tries[place] = (uint8_t)tries;
+                s.level = 2 + turn % 2;
+                s.mission = 1 + turn / 2 % 2;
+                s.mode = 1;                            /* no manual change, no hole end */
+                if ((turn + type) % 2)
+                    untold_held(&s, place);
+                told_held(s, place);
+            }
+        }
 }
 
 static void refusals(void)
 {
     step_refusals();
     step_pairs();
+    standing_refusals();
 
     /* cold start: 13 */
     for (unsigned lowest = 0; lowest < 10; lowest++)
@@ -890,8 +1156,8 @@ static void fields(void)
         for (unsigned mission = 0; mission <= 2; mission++)
             step_rec(3, &t, rec2(EV_MISSION, mission), 0);
         step_rec(3, &t, rec1(EV_MODE), 0);
-        step_rec(3, &t, rec2(EV_HOLE, 0), t.inside ? 0 : 7);
-        step_rec(3, &t, rec2(EV_HOLE, 1), t.inside ? 7 : 0);
+        untold_rec(3, &t, rec2(EV_HOLE, 0), t.inside ? 0 : 7);
+        untold_rec(3, &t, rec2(EV_HOLE, 1), t.inside ? 7 : 0);
         step_rec(3, &t, rec2(EV_END_ALL, 0), 0);
         step_rec(3, &t, rec2(EV_END_ALL, 1), 0);
     }
@@ -930,8 +1196,10 @@ static void fields(void)
         if (number > 41 && number != 64 && number != 127 && number != 128 && number != 154 &&
             number != 160 && number != 166 && number != 167 && number != 255)
             continue;
-        step_rec(3, &contacting, message_of(A_1, number, 0), number == 32 ? 0 : number == 38 ? 5 : number == 39 ? 7 : 3);
-        step_rec(3, &ending, message_of(A_1, number, 0), number == 32 ? 7 : number == 38 ? 5 : number == 39 ? 0 : 3);
+        told_rec(3, &contacting, message_of(A_1, number, 0),
+                 number == 32 ? 0 : number == 38 ? 5 : number == 39 ? 7 : 3, 3, CONTACTING);
+        told_rec(3, &ending, message_of(A_1, number, 0),
+                 number == 32 ? 7 : number == 38 ? 5 : number == 39 ? 0 : 3, 3, ENDING);
         step_rec(3, &s, message_of(NEW, number, 0), number == 32 || number == 39 ? 6 : number == 38 ? 0 : 3);
     }
     static const uint8_t versions[10] = {0, 1, 2, 16, 32, 126, 127, 128, 129, 255};
@@ -987,7 +1255,7 @@ static void fields(void)
                 r.b[1] = 1, r.b[2] = 0;
             r.b[5] = kind == EV_MESSAGE ? 39 : 0;
             r.b[6] = kind == EV_ORDER ? 1 : 0;
-            step_vector(3, &t, r.b, length, length == record_length[kind] ? 0 : 1);
+            step_vector(3, &t, r.b, length, untold(length == record_length[kind] ? 0 : 1));
         }
     /* unknown kinds: all, of one byte and as long as another kind */
     for (unsigned kind = 0; kind < 256; kind++) {
@@ -995,13 +1263,35 @@ static void fields(void)
             continue;
         const uint8_t lengths[6] = {1, 2, 3, 5, 7, 16};
         const Rec r = rec7(kind, A_1, 39, 0);
-        step_vector(3, &ending, r.b, lengths[kind % 6], 2);
+        step_vector(3, &ending, r.b, lengths[kind % 6], untold(2));
         if (kind < 18 || kind > 253)
-            step_vector(3, &contacting, r.b, lengths[(kind + 3) % 6], 2);
+            step_vector(3, &contacting, r.b, lengths[(kind + 3) % 6], untold(2));
     }
 }
 
 /* ---- group 4: orders ---- */
+
+/* Request Q-6: an order and a call 38 whose partner stands in each place and form, with a place
+ * below it free, one above it free, none free, and all others free. */
+static void orders_told(void)
+{
+    unsigned k = 0;
+    for (unsigned place = 0; place < PLACES; place++)
+        for (unsigned f = 0; f < 20; f++)
+            for (unsigned around = 0; around < AROUNDS; around++, k++) {
+                const unsigned phase = form[f].phase;
+                State s = standing(A, place, f, around);
+                s.level = 2 + k % 2;
+                s.mission = 1;
+                set_marks(&s, 7);
+                told_rec(4, &s, order_of(A, k / 5 % 2, k % 5), 5, place, phase);
+                told_rec(4, &s, message_of(A, 38, 0), 5, place, phase);
+                if (form[f].direction != 0)
+                    continue;
+                hold_form(&s, place, 0x01000005, f);
+                told_rec(4, &s, order_of(0x01000005, k / 4 % 2, k % 5), 5, place, phase);
+            }
+}
 
 static void orders(void)
 {
@@ -1060,8 +1350,10 @@ static void orders(void)
         set_marks(&s, 7);
         s.level = 2;
         s.mission = 1;
-        step_rec(4, &s, order_of(A, 0, f % 5), 5);
+        told_rec(4, &s, order_of(A, 0, f % 5), 5, f % 4, form[f].phase);
     }
+
+    orders_told();
 
     /* every mix of phases and types in the four places, not accepting and accepting */
     static const uint8_t head[8] = {1, 2, 3, 1, 0, 1, 1, 1};
@@ -1074,6 +1366,19 @@ static void orders(void)
                 choice(p1, 1, b);
                 mix_vector(4, head, p0, p1, r.b, r.n);
             }
+
+    /* the partner of an order or a 38 stands, or does not, in place 0, 2 or 3 of such mixes */
+    for (unsigned i = 0; i < 8; i++) {
+        static const struct { uint8_t number, type, a, b; } who[8] = {
+            {0x22, RBC, 0, 4}, {0x22, RBC, 3, 2}, {0x23, RBC, 4, 0}, {0x23, RBC, 10, 5},
+            {0x22, RIU, 5, 1}, {0x23, RIU, 8, 3}, {0x20, RBC, 4, 0}, {0x20, RBC, 2, 9},
+        };
+        const uint32_t partner = (uint32_t)who[i].type << 24 | who[i].number;
+        const Rec r = i % 2 && who[i].type == RBC ? message_of(partner, 38, 0) : order_of(partner, i / 2 % 2, 1);
+        choice(p0, 0, who[i].a);
+        choice(p1, 1, who[i].b);
+        mix_vector(4, head, p0, p1, r.b, r.n);
+    }
 
     /* some mixes for an order of an RIU, end all and mission 0; also incoming, other tries, and
      * numbers that use all three bytes */
@@ -1384,7 +1689,7 @@ static void images(void)
 
 static void buffers(void)
 {
-    typedef struct { State s; Rec r; unsigned code, count; } Buffered;
+    typedef struct { State s; Rec r; unsigned code, count, place, phase; } Buffered;
     Buffered x[48];
     unsigned c = 0;
     State none = with_x(1, 2), some = full_state(), open = full_state(), full = full_state(), bad;
@@ -1397,37 +1702,37 @@ static void buffers(void)
     bad = full;
     bad.level = 5;
 
-    x[c++] = (Buffered){some, rec3(EV_LEVEL, 3, 1), 0, 0};
-    x[c++] = (Buffered){some, rec1(EV_MODE), 0, 0};
-    x[c++] = (Buffered){some, rec5(EV_UP, A_1), 0, 0};
-    x[c++] = (Buffered){none, rec2(EV_END_ALL, 0), 0, 0};
-    x[c++] = (Buffered){none, order_of(A_RIU, 0, 1), 0, 1};
-    x[c++] = (Buffered){some, message_of(A_2, 38, 0), 0, 1};
-    x[c++] = (Buffered){some, rec5(EV_LOST, A), 0, 1};
-    x[c++] = (Buffered){some, rec5(EV_TIMEOUT, A_3), 0, 1};
-    x[c++] = (Buffered){some, message_of(A_3, 32, 0x30), 0, 2};
+    x[c++] = (Buffered){some, rec3(EV_LEVEL, 3, 1), 0, 0, 4, 0};
+    x[c++] = (Buffered){some, rec1(EV_MODE), 0, 0, 4, 0};
+    x[c++] = (Buffered){some, rec5(EV_UP, A_1), 0, 0, 4, 0};
+    x[c++] = (Buffered){none, rec2(EV_END_ALL, 0), 0, 0, 4, 0};
+    x[c++] = (Buffered){none, order_of(A_RIU, 0, 1), 0, 1, 4, 0};
+    x[c++] = (Buffered){some, message_of(A_2, 38, 0), 0, 1, 4, 0};
+    x[c++] = (Buffered){some, rec5(EV_LOST, A), 0, 1, 4, 0};
+    x[c++] = (Buffered){some, rec5(EV_TIMEOUT, A_3), 0, 1, 4, 0};
+    x[c++] = (Buffered){some, message_of(A_3, 32, 0x30), 0, 2, 4, 0};
     vacate(&some, 2);
-    x[c++] = (Buffered){some, order_of(NEW, 0, 1), 0, 2};
-    x[c++] = (Buffered){some, rec2(EV_END_ALL, 1), 0, 2};
+    x[c++] = (Buffered){some, order_of(NEW, 0, 1), 0, 2, 4, 0};
+    x[c++] = (Buffered){some, rec2(EV_END_ALL, 1), 0, 2, 4, 0};
     hold(&some, 2, A_1, LOST, OUTGOING, 2);
-    x[c++] = (Buffered){some, order_of(NEW, 0, 1), 0, 3};
-    x[c++] = (Buffered){some, rec2(EV_MISSION, 0), 0, 3};
-    x[c++] = (Buffered){open, rec2(EV_END_ALL, 0), 0, 4};
-    x[c++] = (Buffered){full, rec2(EV_MISSION, 0), 0, 4};
+    x[c++] = (Buffered){some, order_of(NEW, 0, 1), 0, 3, 4, 0};
+    x[c++] = (Buffered){some, rec2(EV_MISSION, 0), 0, 3, 4, 0};
+    x[c++] = (Buffered){open, rec2(EV_END_ALL, 0), 0, 4, 4, 0};
+    x[c++] = (Buffered){full, rec2(EV_MISSION, 0), 0, 4, 4, 0};
     vacate(&open, 2);
-    x[c++] = (Buffered){open, order_of(NEW, 0, 1), 0, 4};
+    x[c++] = (Buffered){open, order_of(NEW, 0, 1), 0, 4, 4, 0};
     const unsigned accepted = c;
-    x[c++] = (Buffered){some, rec0(), 1, 0};
-    x[c++] = (Buffered){some, rec1(12), 2, 0};
-    x[c++] = (Buffered){some, rec2(EV_MODE, 0), 1, 0};
-    x[c++] = (Buffered){some, order_of(NEW, 0, 5), 3, 0};
-    x[c++] = (Buffered){some, order_of(NEW, 0, 4), 4, 0};
-    x[c++] = (Buffered){some, order_of(A, 0, 1), 5, 0};
-    x[c++] = (Buffered){some, rec5(EV_DROP, NEW), 6, 0};
-    x[c++] = (Buffered){some, rec5(EV_TIMEOUT, A), 7, 0};
-    x[c++] = (Buffered){full, order_of(NEW, 0, 1), 8, 0};
-    x[c++] = (Buffered){some, message_of(NEW_RIU, 38, 0), 9, 0};
-    x[c++] = (Buffered){bad, rec2(EV_END_ALL, 0), 11, 0};
+    x[c++] = (Buffered){some, rec0(), 1, 0, 4, 0};
+    x[c++] = (Buffered){some, rec1(12), 2, 0, 4, 0};
+    x[c++] = (Buffered){some, rec2(EV_MODE, 0), 1, 0, 4, 0};
+    x[c++] = (Buffered){some, order_of(NEW, 0, 5), 3, 0, 4, 0};
+    x[c++] = (Buffered){some, order_of(NEW, 0, 4), 4, 0, 4, 0};
+    x[c++] = (Buffered){some, order_of(A, 0, 1), 5, 0, 0, OPEN};
+    x[c++] = (Buffered){some, rec5(EV_DROP, NEW), 6, 0, 4, 0};
+    x[c++] = (Buffered){some, rec5(EV_TIMEOUT, A), 7, 0, 0, OPEN};
+    x[c++] = (Buffered){full, order_of(NEW, 0, 1), 8, 0, 4, 0};
+    x[c++] = (Buffered){some, message_of(NEW_RIU, 38, 0), 9, 0, 4, 0};
+    x[c++] = (Buffered){bad, rec2(EV_END_ALL, 0), 11, 0, 4, 0};
 
     for (unsigned i = 0; i < c; i++) {
         static const uint8_t lengths[8] = {0, 19, 20, 21, 40, 5, 15, 255};
@@ -1440,9 +1745,9 @@ static void buffers(void)
                     continue;
                 if (i >= accepted && lengths[l] != 20 && f != (i + l) % 3)
                     continue;
-                const unsigned code_wanted = lengths[l] < 20 ? 10 : x[i].code;
-                if (step_in(7, &x[i].s, x[i].r.b, x[i].r.n, lengths[l], fills[f], code_wanted) !=
-                    (code_wanted ? 0 : x[i].count))
+                const Hand want = lengths[l] < 20 ? untold(10) : (Hand){x[i].code, x[i].place, x[i].phase};
+                if (step_in(7, &x[i].s, x[i].r.b, x[i].r.n, lengths[l], fills[f], want) !=
+                    (want.code ? 0 : x[i].count))
                     fail("another count of actions");
             }
     }
@@ -1729,6 +2034,8 @@ static int put_file(const char *name, const uint8_t *b, size_t length)
 
 static int small(const char *name, unsigned long spoil)
 {
+    const unsigned byte = spoil > SPOIL_PHASE ? 2 : spoil > SPOIL_PLACE ? 1 : 0;     /* 1 place, 2 phase */
+    spoil -= byte == 2 ? SPOIL_PHASE : byte == 1 ? SPOIL_PLACE : 0;
     static uint8_t out[60000];
     static uint8_t take[sizeof vectors / sizeof vectors[0]];
     size_t length = 0, chosen = 0;
@@ -1757,7 +2064,18 @@ static int small(const char *name, unsigned long spoil)
         }
         memcpy(out + length, bytes + v->at - 2, v->length + 2);
         chosen++;
-        if (chosen == spoil) {
+        if (chosen == spoil && byte > 0) {
+            const uint32_t at = v->place_at + byte - 1;
+            uint8_t *const b = out + length + 2 + at;
+            const uint8_t old = *b;
+            if (v->place_at == 0) {
+                fprintf(stderr, "vector %zu (group %u, op %u) expects no place\n", chosen, v->group, v->op);
+                return 1;
+            }
+            *b = byte == 1 ? (old == PLACES ? 0 : old ^ 1) : old % ENDING + 1;
+            printf("spoiled vector %zu (group %u, op %u): body byte %u, %s with code %u, %u instead of %u\n",
+                   chosen, v->group, v->op, at, byte == 1 ? "place" : "phase", b[-1 - (int)byte], *b, old);
+        } else if (chosen == spoil) {
             const char *what = "expected code";
             uint32_t at = v->code_at;
             if (spoil % 3 == 1 && v->action_at) {

@@ -24,7 +24,7 @@ use Rattle.place.specs.declared.limits.Limits.{Limits}
 use Rattle.place.specs.declared.turn.Turn.{Turn}
 use Rattle.place.specs.declared.turn.Turn.the-variants.{Released, Becomes, Sends}
 use Rattle.unit.specs.States.{first, seek, placesOk, sound, noMarks, cold, coldStart, some}
-use Rattle.unit.specs.Steps.{act, turned, closed, closingActions, step}
+use Rattle.unit.specs.Steps.{done, act, turned, closed, closingActions, step}
 use Rattle.unit.specs.OnRecords.{trace, actionRoom, onRecord}
 use Rattle.unit.specs.declared.state.State.{State}
 use Rattle.history.specs.Histories.{endOf, after, isOrder, isCall, isLoss, acceptedAs, perOrder, perCall, perLoss}
@@ -59,7 +59,7 @@ module _ (n : ℕ) (d : Direction) where
   turns : (ph : Phase) (e : PartnerEvent) (bytes : List ℕ)
       → Fit ph
       → reading bytes ≡ Meant (Named rbc5 e)
-      → onRecord n (box d ph) bytes actionRoom ≡ turned (box d ph) 0 rbc5 (turn n oneToTwo ph e)
+      → onRecord n (box d ph) bytes actionRoom ≡ turned (box d ph) 0 ph rbc5 (turn n oneToTwo ph e)
   unfolding onRecord step seek first some
   turns ph e bytes fit means = rw (box-sound ph fit, means) refl
 
@@ -68,10 +68,10 @@ module _ (n : ℕ) (d : Direction) where
       → Fit ph
       → reading bytes ≡ Meant (Named rbc5 e)
       → turn n oneToTwo ph e ≡ t
-      → Leads n (turned (box d ph) 0 rbc5 t .state) history u a b c k
-      → Leads n (box d ph) (bytes ∷ history) u (acceptedAs isOrder bytes (turned (box d ph) 0 rbc5 t) + a) (acceptedAs isCall bytes (turned (box d ph) 0 rbc5 t) + b) (acceptedAs isLoss bytes (turned (box d ph) 0 rbc5 t) + c) (length (turned (box d ph) 0 rbc5 t .actions) + k)
+      → Leads n (turned (box d ph) 0 ph rbc5 t .state) history u a b c k
+      → Leads n (box d ph) (bytes ∷ history) u (acceptedAs isOrder bytes (turned (box d ph) 0 ph rbc5 t) + a) (acceptedAs isCall bytes (turned (box d ph) 0 ph rbc5 t) + b) (acceptedAs isLoss bytes (turned (box d ph) 0 ph rbc5 t) + c) (length (turned (box d ph) 0 ph rbc5 t .actions) + k)
   via ph e bytes t history u a b c k fit means turning rest =
-      begins n (box d ph) bytes (turned (box d ph) 0 rbc5 t) history u a b c k (turns ph e bytes fit means ∙ ap (turned (box d ph) 0 rbc5) turning) rest
+      begins n (box d ph) bytes (turned (box d ph) 0 ph rbc5 t) history u a b c k (turns ph e bytes fit means ∙ ap (turned (box d ph) 0 ph rbc5) turning) rest
 
   -- the timeouts of a phase, from the first try to the last
   module _ (phase : ℕ → Phase) (number : ℕ) (fit : (t : ℕ) → 1 ≤ t → t ≤ n → Fit (phase t)) (once-more : (t : ℕ) → t < n → turn n oneToTwo (phase t) Timeout ≡ Sends number (phase (t + 1))) where
@@ -169,7 +169,7 @@ module _ (n : ℕ) (some-try : 1 ≤ n) where
   unfolding reading first seek placesOk sound cold coldStart step onRecord calling some
   calling-leads c =
       counted-as n _ _ _ _ _ _ _ 0 1 c (perCall n + perLoss n * c)
-      (begins n started call5 (record { code = 0; state = box Incoming Open; actions = act rbc5 159 ∷ [] }) _ _ _ _ _ _ refl (session-leads n Incoming some-try c))
+      (begins n started call5 (done (box Incoming Open) (act rbc5 159 ∷ [])) _ _ _ _ _ _ refl (session-leads n Incoming some-try c))
       (omega arith)
       (omega arith)
       (omega arith)
@@ -192,7 +192,7 @@ module _ (n : ℕ) (some-try : 1 ≤ n) where
   unfolding reading turn first seek placesOk sound cold coldStart closed closingActions step onRecord ordering some
   ordering-leads c =
       counted-as n _ _ _ _ _ _ _ 1 0 c (perOrder n + perLoss n * c)
-      (begins n started order5 (record { code = 0; state = box Outgoing (Connecting 1); actions = act rbc5 21 ∷ [] }) _ _ _ _ _ _ refl
+      (begins n started order5 (done (box Outgoing (Connecting 1)) (act rbc5 21 ∷ [])) _ _ _ _ _ _ refl
       (retried n Outgoing Connecting 21 connecting-fit (λ t. try-again n Outgoing 21 (Connecting t)) some-try _ _ _ _ _ _
       (via n Outgoing (Connecting n) Up up5 (Sends 155 (Contacting 1)) _ _ _ _ _ _ (connecting-fit n some-try (omega arith)) refl refl
       (retried n Outgoing Contacting 155 contacting-fit (λ t. try-again n Outgoing 155 (Contacting t)) some-try _ _ _ _ _ _

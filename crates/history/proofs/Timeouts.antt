@@ -19,7 +19,7 @@ use Rattle.record.specs.declared.event.Reading.the-variants.{Meant, Refused}
 use Rattle.wire.proofs.Tests.{and-left, and-right, cond-holds, true-false}
 use Rattle.record.proofs.Partners.{same-refl, same-eq}
 use Rattle.place.specs.Places.{vacant, tries}
-use Rattle.place.proofs.Holdings.{holdsIn, holdingTurn}
+use Rattle.place.proofs.Holdings.{holdsIn, phaseHeld}
 use Rattle.place.specs.Table.{release, again, oneMore, turn}
 use Rattle.place.specs.declared.phase.Phase.{Phase}
 use Rattle.place.specs.declared.phase.Phase.the-variants.{Connecting, Contacting, Open, Lost, Ending}
@@ -53,21 +53,22 @@ module _ (n : ℕ) (p : Partner) where
   -- something is left to it, and no more than the limit
   module _ (s : State) (some : 1 ≤ leftTo n p (s .places)) (few : leftTo n p (s .places) ≤ n) where
     -- its place is not Open, and every other phase has an action for a timeout
-    place-acts : (i : ℕ) (k : Holding)
+    place-acts : (i : ℕ) (ph : Phase) (k : Holding)
         → holdsIn p k ≡ true
+        → phaseHeld k ≡ ph
         → weightIn (lefts n) (samePartner p) k ≤ n
-        → 1 ≤ own (turned s i p (holdingTurn n (s .limits) k Timeout) .actions)
+        → 1 ≤ own (turned s i ph p (turn n (s .limits) ph Timeout) .actions)
     unfolding turn
-    place-acts i Free h w = true-false false h refl
-    place-acts i (Held d ph q) h w = by ph (subst (λ b. cond b (left n ph) 0 ≤ n) h w)
+    place-acts i ph Free h is w = true-false false h refl
+    place-acts i ph (Held d held q) h is w = by ph (rw (← is) (subst (λ b. cond b (left n held) 0 ≤ n) h w))
       where
-        retried : (number : ℕ) (ph : Phase) → 1 ≤ own (turned s i p (again n number ph) .actions)
+        retried : (number : ℕ) (ph : Phase) → 1 ≤ own (turned s i ph p (again n number ph) .actions)
         retried number ph =
-            cond-holds (λ t. 1 ≤ own (turned s i p t .actions)) (ltb (tries ph) n) (Sends number (oneMore ph)) Released
+            cond-holds (λ t. 1 ≤ own (turned s i ph p t .actions)) (ltb (tries ph) n) (Sends number (oneMore ph)) Released
             (own-action number)
             (own-action release)
 
-        by : (ph : Phase) → left n ph ≤ n → 1 ≤ own (turned s i p (turn n (s .limits) ph Timeout) .actions)
+        by : (ph : Phase) → left n ph ≤ n → 1 ≤ own (turned s i ph p (turn n (s .limits) ph Timeout) .actions)
         by (Connecting t) w = retried 21 (Connecting t)
         by (Contacting t) w = retried 155 (Contacting t)
         by Open w = absurd (omega arith)
@@ -76,10 +77,10 @@ module _ (n : ℕ) (p : Partner) where
 
     -- it has a place
     named-acts : (found : Found) → FoundOk p (s .places) found → 1 ≤ own (namedAt n s p Timeout found .actions)
-    named-acts (At i) at =
+    named-acts (At i ph) at =
         let place = getD (s .places) i vacant in
         let less = weigh-at (weightOf (lefts n) (samePartner p)) (s .places) i (at .0) in
-        place-acts i (place .holding) (at .1) (omega arith)
+        place-acts i ph (place .holding) (at .1) (at .2) (omega arith)
     named-acts (Vacant i) at =
         let none = none-left n p (s .places) (at .2) in
         absurd (omega arith)

@@ -1,7 +1,7 @@
 -- No second answer satisfies the contract of a public function: a line for each of this crate's, over the contract as the checker names it.
 -- Proves: phase-number-once, phase-tries-once, phase-fits-incoming-once, phase-in-session-once, phase-not-ending-once,
 -- phase-in-range-once, phase-closing-once, phase-turn-once, direction-number-once, place-free-once, place-held-once,
--- place-is-free-once, place-partner-once, place-holds-once, place-is-sound-once, place-turn-once, place-closed-by-once,
+-- place-is-free-once, place-partner-once, place-held-phase-once, place-holds-once, place-is-sound-once, place-closed-by-once,
 -- place-after-once, turn-is-taken-once.
 use mathlib.Core.Path.{_≡_, sym, _∙_}
 use Rattle.place.proofs.phase.Phase.number.Reads as phase-number
@@ -17,9 +17,9 @@ use Rattle.place.proofs.place.Place.free.Reads as place-free
 use Rattle.place.proofs.place.Place.held.Reads as place-held
 use Rattle.place.proofs.place.Place.is_free.Reads as place-is-free
 use Rattle.place.proofs.place.Place.partner.Reads as place-partner
+use Rattle.place.proofs.place.Place.held_phase.Reads as place-held-phase
 use Rattle.place.proofs.place.Place.holds.Reads as place-holds
 use Rattle.place.proofs.place.Place.is_sound.Reads as place-is-sound
-use Rattle.place.proofs.place.Place.turn.Reads as place-turn
 use Rattle.place.proofs.place.Place.closed_by.Reads as place-closed-by
 use Rattle.place.proofs.place.Place.after.Reads as place-after
 use Rattle.place.proofs.turn.Turn.is_taken.Reads as turn-is-taken
@@ -102,6 +102,12 @@ pub place-partner-once : (κ : _) (self : _) (r₁ : _) (r₂ : _)
     → r₁ ≡ r₂
 place-partner-once κ self r₁ r₂ p q = p ∙ sym q
 
+pub place-held-phase-once : (κ : _) (self : _) (r₁ : _) (r₂ : _)
+    → place-held-phase.Post κ (self, tt) r₁ (self, tt)
+    → place-held-phase.Post κ (self, tt) r₂ (self, tt)
+    → r₁ ≡ r₂
+place-held-phase-once κ self r₁ r₂ p q = p ∙ sym q
+
 pub place-holds-once : (κ : _) (self : _) (partner : _) (r₁ : _) (r₂ : _)
     → place-holds.Post κ (self, (partner, tt)) r₁ (self, (partner, tt))
     → place-holds.Post κ (self, (partner, tt)) r₂ (self, (partner, tt))
@@ -113,12 +119,6 @@ pub place-is-sound-once : (κ : _) (self : _) (r₁ : _) (r₂ : _)
     → place-is-sound.Post κ (self, tt) r₂ (self, tt)
     → r₁ ≡ r₂
 place-is-sound-once κ self r₁ r₂ p q = p ∙ sym q
-
-pub place-turn-once : (κ : _) (self : _) (event : _) (limits : _) (r₁ : _) (r₂ : _)
-    → place-turn.Post κ (self, (event, (limits, tt))) r₁ (self, (event, (limits, tt)))
-    → place-turn.Post κ (self, (event, (limits, tt))) r₂ (self, (event, (limits, tt)))
-    → r₁ ≡ r₂
-place-turn-once κ self event limits r₁ r₂ p q = p ∙ sym q
 
 pub place-closed-by-once : (κ : _) (self : _) (which : _) (r₁ : _) (r₂ : _)
     → place-closed-by.Post κ (self, (which, tt)) r₁ (self, (which, tt))

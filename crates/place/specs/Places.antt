@@ -1,5 +1,5 @@
 -- Document 01, "What the box remembers", the part on one place.
--- Defines: phaseNumber, tries, directionNumber, tryLimit, vacant, seat, onHolding, isFree, partnerOf, holds, phaseOk, fitsIncoming,
+-- Defines: phaseNumber, tries, directionNumber, tryLimit, vacant, seat, onHolding, isFree, partnerOf, heldPhase, holds, phaseOk, fitsIncoming,
 -- fits, placeOk.
 use Prim.Native.Nat.{ℕ}
 use mathlib.Core.Bool.{Bool, true, false, _&&_}
@@ -59,6 +59,10 @@ isFree place = onHolding true (λ d ph p. false) (place .holding)
 -- the partner of a place; all zeros where it is free
 abbrev pub partnerOf : Place → Partner
 partnerOf place = onHolding (record { kind = 0; high = 0; middle = 0; low = 0 }) (λ d ph p. p) (place .holding)
+
+-- the phase of a held place; Open where it is free
+abbrev pub heldPhase : Place → Phase
+heldPhase place = onHolding Open (λ d ph p. ph) (place .holding)
 
 -- the place holds this partner
 abbrev pub holds : Partner → Place → Bool

@@ -1,7 +1,7 @@
 -- Document 01, "Rules of one step", the part on one place: the phase table, closing, judging a version.
 -- Defines: request, release, incompatible, initiate, terminate, established, Cell, table, column, cell, firstTry,
 -- closing, xOf, supported, judged, withTries, oneMore, again, versionOf, play, turn, onTurn, takes, numbers, inPhase, placeAfter,
--- placeTurn, inSession, notEnding, closes, closedBy.
+-- inSession, notEnding, closes, closedBy.
 use Prim.Native.Nat.{ℕ, _+_, _/_}
 use mathlib.Core.Bool.{Bool, true, false, cond, _&&_}
 use mathlib.Core.List.{List, [], _∷_}
@@ -165,10 +165,6 @@ inPhase k next = onHolding vacant (λ d ph p. seat d next p) k
 
 abbrev pub placeAfter : Place → Turn → Place
 placeAfter place = onTurn place vacant (λ sent next. inPhase (place .holding) next)
-
--- what an event that names the partner of a place makes of it
-abbrev pub placeTurn : ℕ → Limits → Place → PartnerEvent → Turn
-placeTurn n l place e = onHolding Stays (λ d ph p. turn n l ph e) (place .holding)
 
 -- a session: Open or Lost
 abbrev pub inSession : Phase → Bool

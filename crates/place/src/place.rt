@@ -1,12 +1,10 @@
 // Places: free, or a partner with its direction and phase.
 ghost use mathlib.Core.Path.{_≡_};
-ghost use Rattle.place.specs.Places.{directionNumber, tryLimit, vacant, seat, isFree, partnerOf, holds, fits, placeOk};
-ghost use Rattle.place.specs.Table.{inPhase, placeAfter, placeTurn, closes, closedBy};
-use crate::limits::Limits;
+ghost use Rattle.place.specs.Places.{directionNumber, tryLimit, vacant, seat, isFree, partnerOf, heldPhase, holds, fits, placeOk};
+ghost use Rattle.place.specs.Table.{inPhase, placeAfter, closes, closedBy};
 use crate::phase::Phase;
 use crate::turn::Closing;
 use crate::turn::Turn;
-use record::event::PartnerEvent;
 use record::partner::Partner;
 use wire::join::and;
 
@@ -124,6 +122,21 @@ impl Place {
         }
     }
 
+    // The phase of its partner; Open where it is free.
+    pub fn held_phase(self) -> Phase
+        ensures { λ r. ⌜ r ≡ heldPhase self ⌝ }
+    {
+        let holding = self.holding;
+        match holding {
+            Holding::Free => Phase::Open,
+            Holding::Held {
+                direction: _,
+                phase,
+                partner: _,
+            } => phase,
+        }
+    }
+
     // Whether it holds this partner.
     pub fn holds(self, partner: Partner) -> bool
         ensures { λ r. ⌜ r ≡ holds partner self ⌝ }
@@ -156,21 +169,6 @@ impl Place {
                     and(phase.in_range(), direction.fits(phase, partner)),
                 )
             }
-        }
-    }
-
-    // What an event that names its partner makes of it; a free place stays.
-    pub fn turn(self, event: PartnerEvent, limits: Limits) -> Turn
-        ensures { λ r. ⌜ r ≡ placeTurn tryLimit limits self event ⌝ }
-    {
-        let holding = self.holding;
-        match holding {
-            Holding::Free => Turn::Stays,
-            Holding::Held {
-                direction: _,
-                phase,
-                partner: _,
-            } => phase.turn(event, limits),
         }
     }
 

@@ -15,7 +15,7 @@ use Rattle.record.specs.declared.event.Reading.the-variants.{Meant, Refused}
 use Rattle.wire.proofs.Tests.{and-both, cond-case, cond-holds}
 use Rattle.unit.specs.States.{sound}
 use Rattle.unit.specs.Steps.{Outcome, step}
-use Rattle.unit.specs.Concerns.{Concern}
+use Rattle.unit.specs.Standings.{Concern}
 use Rattle.unit.specs.OnRecords.{actionRoom, onReading, onRecord}
 use Rattle.unit.specs.declared.state.State.{State}
 use Rattle.unit.proofs.Shapes.{Shape, refuses, notes, closesEvery, orders, calls, turns, shape}
@@ -42,7 +42,7 @@ refused-fine r low high = by (eqb r refusal.accepted)
 
 module _ (n : ℕ) (s : State) where
   code : {e : Event} {c : Concern} {o : Outcome} → Shape n s e c o → Fine o
-  code (refuses r may) = refused-fine r (may .0) (may .1)
+  code (refuses r may said) = refused-fine r (may .0) (may .1)
   code (notes t m within) = refl
   code (closesEvery t within) = refl
   code (orders p which m i within ok found) = refl

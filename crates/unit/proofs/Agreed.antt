@@ -3,4 +3,5 @@
 pub mod Closings
 pub mod Examples
 pub mod Refusals
+pub mod Standings
 pub mod Writing

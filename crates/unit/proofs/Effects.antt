@@ -25,7 +25,7 @@ use Rattle.wire.proofs.Tests.{and-both, cond-case, cond-holds, true-false}
 use Rattle.record.proofs.Partners.{same-refl, same-eq}
 use Rattle.place.specs.Places.{vacant, seat, isFree, holds}
 use Rattle.place.proofs.Holdings.{holdsIn, holdingTurn, holdingClosedBy}
-use Rattle.place.specs.Table.{request, firstTry, closing, closes, turn, oneMore, placeAfter, placeTurn}
+use Rattle.place.specs.Table.{request, firstTry, closing, closes, turn, oneMore, placeAfter}
 use Rattle.place.specs.declared.phase.Phase.{Phase}
 use Rattle.place.specs.declared.phase.Phase.the-variants.{Connecting, Contacting, Open, Lost, Ending}
 use Rattle.place.specs.declared.place.Direction.{Direction}
@@ -41,7 +41,8 @@ use Rattle.place.specs.declared.turn.Closing.the-variants.{Every}
 use Rattle.place.specs.Turns.{onNext}
 use Rattle.unit.specs.States.{seek, sound}
 use Rattle.unit.specs.Steps.{Outcome, closed, step}
-use Rattle.unit.specs.Concerns.{Concern, nobody, orderTo, callOf, naming, concern, concernOf, stirring, stirs, isConnecting}
+use Rattle.unit.specs.Concerns.{stirring, stirs, isConnecting}
+use Rattle.unit.specs.Standings.{Concern, nobody, orderTo, callOf, naming, concern, concernOf}
 use Rattle.unit.specs.OnRecords.{actionRoom, onRecord}
 use Rattle.unit.specs.declared.state.State.{State}
 use Rattle.unit.specs.declared.search.Found.the-variants.{At, Vacant}
@@ -77,7 +78,8 @@ pub record Newcomer (c : Concern) (p : Partner) (newcomer : Place) (before after
 -- and where it turns the place that a partner has
 pub record Turning (c : Concern) (p : Partner) (before after : List Place) : Type 0 where
   pub at : ℕ
-  pub found : seek p before ≡ At at
+  pub phase : Phase
+  pub found : seek p before ≡ At at phase
   pub turned : Effect c (getD before at vacant) (getD after at vacant)
   pub others : (i : ℕ) → (i ≡ at → ⊥) → getD after i vacant ≡ getD before i vacant
 
@@ -181,7 +183,7 @@ module _ (n : ℕ) (s : State) where
       → Shape n s e c o
       → o .code ≡ refusal.accepted
       → Places c (s .places) (o .state .places)
-  places (refuses r may) accepted = absurd (omega arith)
+  places (refuses r may said) accepted = absurd (omega arith)
   places (notes t m within) accepted = λ i. stays refl
   places (closesEvery t within) accepted = closedBy-effects nobody Every
   places (orders p which m i within ok found) accepted =
@@ -189,12 +191,13 @@ module _ (n : ℕ) (s : State) where
       (closedBy-effects (orderTo p) which)
   places (calls p i ok rbc found) accepted =
       newcomer (callOf p) p i (seat Incoming Open p) (s .places) found refl (λ j. stays refl)
-  places (turns p event i found taken) accepted =
-      let at = found-ok p (s .places) (At i) found in
+  places (turns p event i {ph = ph} found taken) accepted =
+      let at = found-ok p (s .places) _ found in
       let place = getD (s .places) i vacant in
-      let next = placeAfter place (placeTurn n (s .limits) place event) in
+      let next = placeAfter place (holdingTurn n (s .limits) (place .holding) event) in
       record {
         at = i;
+        phase = ph;
         found = found;
         turned =
             rw (getD-set-same (s .places) i next vacant (at .0)) (turn-effect n (s .limits) p event (place .holding) (at .1));
@@ -221,7 +224,7 @@ module _ (n : ℕ) (s : State) where
   step-limits e = by (shape n s e)
     where
       by : {c : Concern} {o : Outcome} → Shape n s e c o → o .state .limits ≡ s .limits
-      by (refuses r may) = refl
+      by (refuses r may said) = refl
       by (notes t m within) = refl
       by (closesEvery t within) = refl
       by (orders p which m i within ok found) = refl
@@ -237,7 +240,7 @@ module _ (n : ℕ) (s : State) where
   step-number e = by (shape n s e)
     where
       by : {c : Concern} {o : Outcome} → Shape n s e c o → (o .code ≡ refusal.accepted) ⊎ StepRefusal (o .code)
-      by (refuses r may) = inr may
+      by (refuses r may said) = inr may
       by (notes t m within) = inl refl
       by (closesEvery t within) = inl refl
       by (orders p which m i within ok found) = inl refl

@@ -10,8 +10,8 @@ use lib.ListN.{length, getD, set, length-append, length-map, length-set}
 use Rattle.record.specs.declared.event.Event.{Event}
 use Rattle.wire.proofs.Tests.{cond-holds}
 use Rattle.place.specs.Places.{vacant, seat, isFree}
-use Rattle.place.proofs.Holdings.{isFreeHolding, holdingClosedBy}
-use Rattle.place.specs.Table.{closing, closes, firstTry, numbers, request, placeTurn}
+use Rattle.place.proofs.Holdings.{isFreeHolding, holdingTurn, holdingClosedBy}
+use Rattle.place.specs.Table.{closing, closes, firstTry, numbers, request}
 use Rattle.place.specs.declared.phase.Phase.{Phase}
 use Rattle.place.specs.declared.phase.Phase.the-variants.{Connecting, Contacting, Open, Lost, Ending}
 use Rattle.place.specs.declared.place.Direction.the-variants.{Outgoing}
@@ -24,7 +24,7 @@ use Rattle.place.specs.declared.turn.Closing.the-variants.{Every}
 use Rattle.place.proofs.Turns.{turn-few}
 use Rattle.unit.specs.States.{placeCount}
 use Rattle.unit.specs.Steps.{Outcome, act, actionsIn, closingActions, step}
-use Rattle.unit.specs.Concerns.{Concern}
+use Rattle.unit.specs.Standings.{Concern}
 use Rattle.unit.specs.OnRecords.{onRecord}
 use Rattle.unit.specs.Forms.{mostActions}
 use Rattle.unit.specs.declared.state.State.{State}
@@ -86,7 +86,7 @@ Few o = length (o .actions) ≤ mostActions
 
 module _ (n : ℕ) (s : State) (four : length (s .places) ≡ placeCount) where
   few : {e : Event} {c : Concern} {o : Outcome} → Shape n s e c o → Few o
-  few (refuses r may) = omega arith
+  few (refuses r may said) = omega arith
   few (notes t m within) = omega arith
   few (closesEvery t within) =
       let closings = closingActions-few Every (s .places) in
@@ -100,7 +100,7 @@ module _ (n : ℕ) (s : State) (four : length (s .places) ≡ placeCount) where
       omega arith
   few (calls p i ok rbc found) = omega arith
   few (turns p event i found taken) =
-      let most = turn-few (placeTurn n (s .limits) (getD (s .places) i vacant) event) in
+      let most = turn-few (holdingTurn n (s .limits) (getD (s .places) i vacant .holding) event) in
       simp length-map (omega arith)
 
   -- promise

@@ -1,66 +1,71 @@
 -- The step on a record by what the code's tests showed, and its two answers: the struct and the buffer.
--- Proves: on-room, on-unsound, on-reading, refused-pair, answered-few, answered-pair.
-use mathlib.Core.Path.{_≡_, refl, sym, ap, subst, _∙_}
+-- Proves: bytes-unsound, bytes-reading, on-room, on-enough, on-reading, on-fits, answered-count, answered-few,
+-- answered-pair.
+use mathlib.Core.Path.{_≡_, ap, _∙_}
 use mathlib.Core.Bool.{true, false}
 use mathlib.Core.List.{List}
-use Prim.Native.Nat.{ℕ, _≤_, _<_}
+use Prim.Native.Nat.{ℕ, _*_, _≤_, _<_}
+use native.Mathlib.Omega.{arith}
+use lib.Dec.{leb}
 use lib.ListN.{length, take}
-use borrow.Author.Tests.{le-leb, lt-leb}
-use Rattle.wire.specs.Blocks.{blocks}
+use borrow.Author.Tests.{le-leb, lt-leb, leb-true, leb-false}
+use Rattle.wire.proofs.Tests.{cond-case}
 use Rattle.record.specs.Records.{reading}
 use Rattle.wire.specs.Refusals.{noRoom, notSound}
 use Rattle.record.specs.declared.event.Reading.{Reading}
 use Rattle.unit.specs.States.{sound}
 use Rattle.unit.specs.Steps.{Outcome, refused}
-use Rattle.unit.specs.OnRecords.{actionRoom, onReading, onRecord, written}
+use Rattle.unit.specs.OnRecords.{actionSize, actionRoom, onReading, onBytes, onRecord, written}
 use Rattle.unit.specs.Forms.{mostActions, listed, packed, stepped}
 use Rattle.unit.specs.declared.state.State.{State}
 use Rattle.unit.specs.declared.answer.Answer.{Answer}
 use Rattle.unit.specs.declared.answer.Stepped.{Stepped}
 use Rattle.unit.proofs.Written.{listed-take}
 
-module _ (n : ℕ) (s : State) (bytes : List ℕ) (room : ℕ) where
-  pub on-room : room < actionRoom → onRecord n s bytes room ≡ refused noRoom s
-  unfolding onRecord
-  on-room small = simp (lt-leb actionRoom room small)
+module _ (n : ℕ) (s : State) (bytes : List ℕ) where
+  pub bytes-unsound : sound n s ≡ false → onBytes n s bytes ≡ refused notSound s
+  bytes-unsound bad = simp bad
 
-  module _ (enough : actionRoom ≤ room) where
-    pub on-unsound : sound n s ≡ false → onRecord n s bytes room ≡ refused notSound s
+  pub bytes-reading : (r : Reading) → sound n s ≡ true → reading bytes ≡ r → onBytes n s bytes ≡ onReading n s r
+  bytes-reading r good means = simp (good, means)
+
+  module _ (room : ℕ) where
+    pub on-room : room < actionRoom → onRecord n s bytes room ≡ refused noRoom s
     unfolding onRecord
-    on-unsound bad = simp (le-leb actionRoom room enough, bad)
+    on-room small = simp (lt-leb actionRoom room small)
 
-    pub on-reading : (r : Reading) → sound n s ≡ true → reading bytes ≡ r → onRecord n s bytes room ≡ onReading n s r
+    pub on-enough : actionRoom ≤ room → onRecord n s bytes room ≡ onBytes n s bytes
     unfolding onRecord
-    on-reading r good means = simp (le-leb actionRoom room enough, good, means)
+    on-enough enough = simp (le-leb actionRoom room enough)
 
--- what a step on bytes answers: the struct, and the buffer at exit
-abbrev Pair : Stepped → List ℕ → Outcome → List ℕ → Type 0
-Pair r after o buffer = (r ≡ stepped o) × (after ≡ written (o .actions) buffer)
+    pub on-reading : actionRoom ≤ room → (r : Reading) → sound n s ≡ true → reading bytes ≡ r → onRecord n s bytes room ≡ onReading n s r
+    on-reading enough r good means = on-enough enough ∙ bytes-reading r good means
 
--- a refusal: the state as given, no action, the buffer as it was
-pub refused-pair : (o : Outcome) (r : ℕ) (s : State) (buffer : List ℕ)
-    → o ≡ refused r s
-    → Pair (record { code = r; state = s; count = 0 }) buffer o buffer
-unfolding stepped written blocks
-refused-pair o r s buffer e = subst (λ x. Pair (record { code = r; state = s; count = 0 }) buffer x buffer) (sym e) (refl, refl)
+    -- the actions fit the room
+    pub on-fits : length (onRecord n s bytes room .actions) ≤ mostActions → actionSize * length (onRecord n s bytes room .actions) ≤ room
+    on-fits few =
+        cond-case {A = ℕ} (λ k. actionSize * length (onRecord n s bytes room .actions) ≤ room) (leb actionRoom room) 0 0
+        (λ enough.
+        let fit = leb-true actionRoom room enough in
+        omega (arith, few))
+        (λ small. rw (on-room (leb-false actionRoom room small)) (omega arith))
 
--- the answer of the step on values, unpacked
-pub answered-few : (o : Outcome) (a : Answer)
-    → a ≡ packed o
-    → length (o .actions) ≤ mostActions
-    → a .actions .count ≤ mostActions
-unfolding packed listed
-answered-few o a e few = subst (λ x. x .actions .count ≤ mostActions) (sym e) few
+-- the answer of the step on values, as the step on bytes gives it: few actions, which fit the buffer, and the rest as it is
+module _ (o : Outcome) (a : Answer) (is : a ≡ packed o) where
+  pub answered-count : a .actions .count ≡ length (o .actions)
+  unfolding packed listed
+  answered-count = ap (λ x. x .actions .count) is
 
-pub answered-pair : (o t : Outcome) (a : Answer) (buffer after : List ℕ)
-    → o ≡ t
-    → a ≡ packed t
-    → length (t .actions) ≤ mostActions
-    → after ≡ written (take (a .actions .count) (a .actions .items)) buffer
-    → Pair (record { code = a .code; state = a .state; count = a .actions .count }) after o buffer
-unfolding packed listed stepped
-answered-pair o t a buffer after same e few wrote =
-    subst (λ x. Pair (record { code = a .code; state = a .state; count = a .actions .count }) after x buffer) (sym same) (
-      ap (λ x. record { code = x .code; state = x .state; count = x .actions .count }) e,
-      wrote ∙ ap (λ x. written (take (x .actions .count) (x .actions .items)) buffer) e ∙ ap (λ l. written l buffer) (listed-take (t .actions) few),
-    )
+  pub answered-few : length (o .actions) ≤ mostActions → a .actions .count ≤ mostActions
+  answered-few few = rw answered-count few
+
+  pub answered-pair : (buffer after : List ℕ)
+      → length (o .actions) ≤ mostActions
+      → after ≡ written (take (a .actions .count) (a .actions .items)) buffer
+      → (_≡_ {A = Stepped} (record { code = a .code; state = a .state; count = a .actions .count; standing = a .standing }) (stepped o))
+      × (after ≡ written (o .actions) buffer)
+  unfolding packed listed stepped
+  answered-pair buffer after few wrote = (
+    ap (λ x. record { code = x .code; state = x .state; count = x .actions .count; standing = x .standing }) is,
+    wrote ∙ ap (λ x. written (take (x .actions .count) (x .actions .items)) buffer) is ∙ ap (λ l. written l buffer) (listed-take (o .actions) few),
+  )

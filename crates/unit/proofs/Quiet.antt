@@ -30,11 +30,12 @@ use Rattle.place.specs.declared.turn.Closing.{Closing}
 use Rattle.place.specs.declared.turn.Closing.the-variants.{Every}
 use Rattle.unit.specs.States.{seek, sound}
 use Rattle.unit.specs.Steps.{Outcome, act, actionsIn, closingActions, step}
-use Rattle.unit.specs.Concerns.{Concern, concern, concernOf, stirring, stirs, otherFor, isConnecting, heldPast, placePast}
+use Rattle.unit.specs.Concerns.{stirring, stirs, otherFor, isConnecting, heldPast, placePast}
+use Rattle.unit.specs.Standings.{Concern, concern, concernOf}
 use Rattle.unit.specs.Kept.{count, here, once, weigh}
 use Rattle.unit.specs.OnRecords.{onRecord}
 use Rattle.unit.specs.declared.state.State.{State}
-use Rattle.unit.specs.declared.search.Found.the-variants.{At, Vacant}
+use Rattle.unit.specs.declared.search.Found.the-variants.{Vacant}
 use Rattle.unit.proofs.Shapes.{Shape, refuses, notes, closesEvery, orders, calls, turns, shape, by-concern}
 use Rattle.unit.proofs.Weights.{weigh-at, weigh-less, weigh-set}
 use Rattle.unit.proofs.Counts.{passing, count-append, count-sent, closingActions-most}
@@ -130,7 +131,7 @@ module _ (n : ℕ) (s : State) (mine : Partner → Bool)
 
   quiet : {e : Event} {c : Concern} {o : Outcome} → Shape n s e c o → Quiet mine c o
   unfolding count
-  quiet (refuses r may) calm = refl
+  quiet (refuses r may said) calm = refl
   quiet (notes t m within) calm = refl
   quiet (closesEvery t within) calm = closingActions-quiet Every
   quiet (orders p which m i within ok found) calm =
@@ -140,7 +141,7 @@ module _ (n : ℕ) (s : State) (mine : Partner → Bool)
       omega arith
   quiet (calls p i ok rbc found) calm = newcomer-quiet p i established found
   quiet (turns p event i found taken) calm =
-      let at = found-ok p (s .places) (At i) found in
+      let at = found-ok p (s .places) _ found in
       let one = weigh-at (here (placePast mine)) (s .places) i (at .0) in
       held-quiet p event (getD (s .places) i vacant .holding) (at .1) (omega arith) calm
 

@@ -1,5 +1,5 @@
 -- Each kind of step by what the code's tests and search showed, and the array of actions against the list.
--- Proves: packed-done, hole-is, mission-is, order-is, call-is, named-is, turned-is, push-listed, send-listed.
+-- Proves: hole-is, mission-is, order-is, call-is, named-is, turned-is, push-listed, send-listed.
 use mathlib.Core.Path.{_≡_, sym, ap, ap₂, _∙_}
 use mathlib.Core.Bool.{Bool, cond}
 use mathlib.Core.List.{List, [], _∷_, _++_, map, append-nil, append-assoc}
@@ -17,24 +17,16 @@ use Rattle.record.specs.declared.event.PartnerEvent.{PartnerEvent}
 use Rattle.record.specs.declared.event.Event.the-variants.{Mission, Hole, Order, Call, Named}
 use Rattle.wire.proofs.Padded.{padded-push}
 use Rattle.place.specs.Table.{takes}
+use Rattle.place.specs.declared.phase.Phase.{Phase}
 use Rattle.place.specs.declared.turn.Turn.{Turn}
 use Rattle.place.specs.declared.turn.Closing.the-variants.{Every}
-use Rattle.unit.specs.States.{seek}
-use Rattle.unit.specs.Steps.{refused, done, act, withMarks, withMission, markHole, holeTaken, inForce, closePlaces, orderedAt, calledAt, turnedAt, turned, namedAt, step}
-use Rattle.unit.specs.Forms.{mostActions, noAction, listed, pushed, pushAll, packed}
+use Rattle.unit.specs.States.{seek, standing}
+use Rattle.unit.specs.Steps.{refusedAt, refused, done, act, withMarks, withMission, markHole, holeTaken, inForce, closePlaces, admitted, orderedAt, calledAt, turnedAt, turned, namedAt, step}
+use Rattle.unit.specs.Forms.{mostActions, noAction, listed, pushed, pushAll}
 use Rattle.unit.specs.declared.state.State.{State}
 use Rattle.unit.specs.declared.search.Found.{Found}
+use Rattle.unit.specs.declared.search.Found.the-variants.{At}
 use Rattle.unit.specs.declared.answer.Action.{Action}
-use Rattle.unit.specs.declared.answer.Actions.{Actions}
-use Rattle.unit.specs.declared.answer.Answer.{Answer}
-
--- an accepted step, its state and its actions made by the code
-pub packed-done : (s t : State) (a : Actions) (acts : List Action)
-    → s ≡ t
-    → a ≡ listed acts
-    → _≡_ {A = Answer} (record { code = refusal.accepted; state = s; actions = a }) (packed (done t acts))
-unfolding packed
-packed-done s t a acts state actions = λ i. record { code = refusal.accepted; state = state i; actions = actions i }
 
 module _ (n : ℕ) (s : State) where
   pub hole-is : (entered b : Bool)
@@ -54,18 +46,19 @@ module _ (n : ℕ) (s : State) where
   pub order-is : (p : Partner) (accepting : Bool) (cause : Cause) (b : Bool) (found : Found)
       → inForce cause (s .train) (s .marks) ≡ b
       → seek p (s .places) ≡ found
-      → step n s (Order p accepting cause) ≡ cond b (orderedAt s p accepting cause found) (refused refusal.notInForce s)
+      → step n s (Order p accepting cause)
+      ≡ cond b (admitted s (orderedAt s p accepting cause) found) (refused refusal.notInForce s)
   unfolding step
   order-is p accepting cause b found test search =
-      ap₂ (λ t f. cond t (orderedAt s p accepting cause f) (refused refusal.notInForce s)) test search
+      ap₂ (λ t f. cond t (admitted s (orderedAt s p accepting cause) f) (refused refusal.notInForce s)) test search
 
   pub call-is : (p : Partner) (b : Bool) (found : Found)
       → isRbc p ≡ b
       → seek p (s .places) ≡ found
-      → step n s (Call p) ≡ cond b (calledAt s p found) (refused refusal.callFromRiu s)
+      → step n s (Call p) ≡ cond b (admitted s (calledAt s p) found) (refused refusal.callFromRiu s)
   unfolding step
   call-is p b found test search =
-      ap₂ (λ t f. cond t (calledAt s p f) (refused refusal.callFromRiu s)) test search
+      ap₂ (λ t f. cond t (admitted s (calledAt s p) f) (refused refusal.callFromRiu s)) test search
 
   pub named-is : (p : Partner) (e : PartnerEvent) (found : Found)
       → seek p (s .places) ≡ found
@@ -73,10 +66,10 @@ module _ (n : ℕ) (s : State) where
   unfolding step
   named-is p e found search = ap (namedAt n s p e) search
 
-  pub turned-is : (i : ℕ) (p : Partner) (t : Turn) (b : Bool)
+  pub turned-is : (i : ℕ) (ph : Phase) (p : Partner) (t : Turn) (b : Bool)
       → takes t ≡ b
-      → turned s i p t ≡ cond b (turnedAt s i p t) (refused refusal.notTaken s)
-  turned-is i p t b test = ap (λ u. cond u (turnedAt s i p t) (refused refusal.notTaken s)) test
+      → turned s i ph p t ≡ cond b (turnedAt s i p t) (refusedAt refusal.notTaken (standing (At i ph)) s)
+  turned-is i ph p t b test = ap (λ u. cond u (turnedAt s i p t) (refusedAt refusal.notTaken (standing (At i ph)) s)) test
 
 -- an action pushed where there is room stands last in the list
 pub push-listed : (acts : List Action) (p : Partner) (number : ℕ)

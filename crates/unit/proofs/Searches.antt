@@ -15,7 +15,8 @@ use lib.Seq.{drop-cons}
 use borrow.Author.Tests.{ltb-true, ltb-false, lt-ltb, le-ltb}
 use Rattle.record.specs.declared.partner.Partner.{Partner}
 use Rattle.wire.proofs.Tests.{cond-case}
-use Rattle.place.specs.Places.{vacant, isFree, holds}
+use Rattle.place.specs.Places.{vacant, isFree, heldPhase, holds}
+use Rattle.place.specs.declared.phase.Phase.{Phase}
 use Rattle.place.specs.declared.place.Place.{Place}
 use Rattle.unit.specs.States.{some, first, seek}
 use Rattle.unit.specs.declared.search.Found.{Found}
@@ -105,18 +106,21 @@ none-some test ps none = ltb-false (first test ps) (length ps) (sym (some-first 
 pub some-none : (test : Place → Bool) (ps : List Place) → length ps ≤ first test ps → not (some test ps) ≡ true
 some-none test ps above = ap not (some-first test ps ∙ le-ltb (first test ps) (length ps) above)
 
+-- the lowest place that holds a partner, as it is found
+abbrev there : Partner → List Place → Found
+there p ps = At (first (holds p) ps) (heldPhase (getD ps (first (holds p) ps) vacant))
+
 -- the search by these numbers
 seek-first : (p : Partner) (ps : List Place)
     → seek p ps
-    ≡ cond (ltb (first (holds p) ps) (length ps)) (At (first (holds p) ps))
-    (cond (ltb (first isFree ps) (length ps)) (Vacant (first isFree ps)) Full)
+    ≡ cond (ltb (first (holds p) ps) (length ps)) (there p ps) (cond (ltb (first isFree ps) (length ps)) (Vacant (first isFree ps)) Full)
 unfolding seek
 seek-first p ps =
-    ap₂ (λ a b. cond a (At (first (holds p) ps)) (cond b (Vacant (first isFree ps)) Full)) (some-first (holds p) ps) (some-first isFree ps)
+    ap₂ (λ a b. cond a (there p ps) (cond b (Vacant (first isFree ps)) Full)) (some-first (holds p) ps) (some-first isFree ps)
 
 -- what the search for a partner's place says
 abbrev pub FoundOk : Partner → List Place → Found → Type 0
-FoundOk p ps (At i) = (i < length ps) × (holds p (getD ps i vacant) ≡ true)
+FoundOk p ps (At i ph) = (i < length ps) × (holds p (getD ps i vacant) ≡ true) × (heldPhase (getD ps i vacant) ≡ ph)
 FoundOk p ps (Vacant i) = (i < length ps) × (isFree (getD ps i vacant) ≡ true) × (weigh (here (holds p)) ps ≡ 0)
 FoundOk p ps Full = (weigh (here isFree) ps ≡ 0) × (weigh (here (holds p)) ps ≡ 0)
 
@@ -125,10 +129,10 @@ seek-ok p ps =
     let held = first (holds p) ps in
     let free = first isFree ps in
     subst⁻¹ (FoundOk p ps) (seek-first p ps)
-    (cond-case (FoundOk p ps) (ltb held (length ps)) (At held) (cond (ltb free (length ps)) (Vacant free) Full)
+    (cond-case (FoundOk p ps) (ltb held (length ps)) (there p ps) (cond (ltb free (length ps)) (Vacant free) Full)
     (λ found.
     let below = ltb-true held (length ps) found in
-    (below, first-passes (holds p) ps below))
+    (below, first-passes (holds p) ps below, refl))
     (λ missed.
     let absent = first-none (holds p) ps (ltb-false held (length ps) missed) in
     cond-case (FoundOk p ps) (ltb free (length ps)) (Vacant free) Full
@@ -149,7 +153,7 @@ pub seek-lowest : (p : Partner) (ps : List Place) (i j : ℕ)
 unfolding seek
 seek-lowest p ps i j is below = first-lowest isFree ps j (by (some (holds p) ps) (some isFree ps) is)
   where
-    by : (a b : Bool) → cond a (At (first (holds p) ps)) (cond b (Vacant (first isFree ps)) Full) ≡ Vacant i → j < first isFree ps
+    by : (a b : Bool) → cond a (there p ps) (cond b (Vacant (first isFree ps)) Full) ≡ Vacant i → j < first isFree ps
     by true b is = absurd (let z : _≡_ {A = ℕ} 0 1 = cc in omega arith)
     by false true is =
         let same : first isFree ps ≡ i = cc in
@@ -187,10 +191,10 @@ module _ (test : Place → Bool) (ps : List Place) (from i : ℕ) (so-far : Sear
 
 -- the answer of the search for a partner, by what its two searches found
 module _ (p : Partner) (ps : List Place) (held : ℕ) (from-start : held ≡ 0 + first (holds p) ps) where
-  pub seek-at : held < length ps → At held ≡ seek p ps
-  seek-at below =
+  pub seek-at : (ph : Phase) → held < length ps → ph ≡ heldPhase (getD ps held vacant) → At held ph ≡ seek p ps
+  seek-at ph below phase =
       let same : held ≡ first (holds p) ps = omega arith in
-      rw (seek-first p ps, ← same) (simp (lt-ltb held (length ps) below))
+      rw (seek-first p ps, ← same, phase) (simp (lt-ltb held (length ps) below))
 
   module _ (absent : length ps ≤ held) (free : ℕ) (lowest : free ≡ first isFree ps) where
     pub seek-vacant : free < length ps → Vacant free ≡ seek p ps

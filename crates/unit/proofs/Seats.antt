@@ -20,7 +20,8 @@ use Rattle.place.specs.declared.place.Holding.the-variants.{Free, Held}
 use Rattle.place.specs.declared.place.Place.{Place}
 use Rattle.place.specs.declared.limits.Limits.{Limits}
 use Rattle.place.proofs.ByRow.{judged-case}
-use Rattle.unit.specs.Concerns.{Concern, nobody, orderTo, callOf, naming, takesIn, heldBy, placeOf}
+use Rattle.unit.specs.Concerns.{takesIn, heldBy, placeOf}
+use Rattle.unit.specs.Standings.{Concern, nobody, orderTo, callOf, naming}
 use Rattle.unit.proofs.Weights.{weigh-same}
 use Rattle.unit.specs.Kept.{here, once, weigh}
 use Rattle.unit.proofs.Counts.{nothing}

@@ -15,8 +15,8 @@ use Rattle.record.specs.declared.partner.Partner.{Partner}
 use Rattle.record.specs.declared.event.Event.{Event}
 use Rattle.wire.proofs.Tests.{cond-holds}
 use Rattle.place.specs.Places.{vacant}
-use Rattle.place.specs.Table.{request, closing, closes, numbers, placeTurn}
-use Rattle.place.proofs.Holdings.{holdingClosedBy}
+use Rattle.place.specs.Table.{request, closing, closes, numbers}
+use Rattle.place.proofs.Holdings.{holdingTurn, holdingClosedBy}
 use Rattle.place.specs.declared.place.Holding.{Holding}
 use Rattle.place.specs.declared.place.Holding.the-variants.{Free, Held}
 use Rattle.place.specs.declared.place.Place.{Place}
@@ -24,12 +24,15 @@ use Rattle.place.specs.declared.turn.Turn.the-variants.{Stays}
 use Rattle.place.specs.declared.turn.Closing.{Closing}
 use Rattle.place.specs.declared.turn.Closing.the-variants.{Every}
 use Rattle.place.proofs.Turns.{turn-few}
-use Rattle.unit.specs.Steps.{Outcome, refused, act, actionsIn, closingActions, step}
-use Rattle.unit.specs.Concerns.{Concern, nobody, orderTo, callOf, naming, concern, concernOf, takesIn, actionFor, releaseFor, heldBy, placeOf}
+use Rattle.unit.specs.States.{nowhere}
+use Rattle.unit.specs.Steps.{Outcome, refusedAt, refused, act, actionsIn, closingActions, step}
+use Rattle.unit.specs.Concerns.{takesIn, actionFor, releaseFor, heldBy, placeOf}
+use Rattle.unit.specs.Standings.{Concern, nobody, orderTo, callOf, naming, concern, concernOf}
 use Rattle.unit.specs.Kept.{count, here, once, weigh}
 use Rattle.unit.specs.OnRecords.{onRecord}
 use Rattle.unit.specs.declared.state.State.{State}
 use Rattle.unit.specs.declared.search.Found.the-variants.{Vacant}
+use Rattle.unit.specs.declared.search.Standing.{Standing}
 use Rattle.unit.specs.declared.answer.Action.{Action}
 use Rattle.unit.proofs.Shapes.{RecordRefusal, Shape, refuses, notes, closesEvery, orders, calls, turns, shape, by-concern}
 use Rattle.unit.proofs.Counts.{count-append, count-one, closingActions-most}
@@ -95,7 +98,7 @@ module _ (n : ℕ) (s : State) (mine : Partner → Bool) where
 
   most : {e : Event} {c : Concern} {o : Outcome} → Shape n s e c o → count (actionFor mine) (o .actions) ≤ mostFor mine (s .places) c
   unfolding count
-  most (refuses r may) = omega arith
+  most (refuses r may said) = omega arith
   most (notes t m within) = omega arith
   most (closesEvery t within) = closingActions-for Every
   most (orders p which m i within ok found) =
@@ -104,7 +107,7 @@ module _ (n : ℕ) (s : State) (mine : Partner → Bool) where
       omega arith
   most (calls p i ok rbc found) = omega arith
   most (turns p event i found taken) =
-      let t = placeTurn n (s .limits) (getD (s .places) i vacant) event in
+      let t = holdingTurn n (s .limits) (getD (s .places) i vacant .holding) event in
       rw (count-one mine p (numbers t)) (cond-most (mine p) (length (numbers t)) 2 (turn-few t))
 
   -- how many actions a step has for them
@@ -133,14 +136,14 @@ Ends (callOf p) o = Unit
 Ends (naming p e) o = Unit
 
 module _ (n : ℕ) (s : State) where
-  refused-ends : (c : Concern) (r : ℕ) → RecordRefusal r → Ends c (refused r s)
-  refused-ends nobody r may = tt
-  refused-ends (orderTo p) r may = λ accepted. absurd (omega arith)
-  refused-ends (callOf p) r may = tt
-  refused-ends (naming p e) r may = tt
+  refused-ends : (c : Concern) (r : ℕ) (w : Standing) → RecordRefusal r → Ends c (refusedAt r w s)
+  refused-ends nobody r w may = tt
+  refused-ends (orderTo p) r w may = λ accepted. absurd (omega arith)
+  refused-ends (callOf p) r w may = tt
+  refused-ends (naming p e) r w may = tt
 
   ends : {e : Event} {c : Concern} {o : Outcome} → Shape n s e c o → Ends c o
-  ends (refuses {c = c} r may) = refused-ends c r (omega arith)
+  ends (refuses {c = c} {w = w} r may said) = refused-ends c r w (omega arith)
   ends (notes t m within) = tt
   ends (closesEvery t within) = tt
   ends (orders p which m i within ok found) =
@@ -156,4 +159,4 @@ module _ (n : ℕ) (s : State) where
   step-ends e = ends (shape n s e)
 
   pub onRecord-ends : (bytes : List ℕ) (room : ℕ) → Ends (concernOf (reading bytes)) (onRecord n s bytes room)
-  onRecord-ends bytes room = by-concern n s Ends bytes room refused-ends step-ends
+  onRecord-ends bytes room = by-concern n s Ends bytes room (λ c r. refused-ends c r nowhere) step-ends

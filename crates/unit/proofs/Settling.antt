@@ -1,12 +1,13 @@
 -- A change carried out, in the shapes that the code builds.
--- Proves: closed-nothing, closingActions-nothing, carried-noted, carried-quiet, carried-set, carried-take, settled-past, carried-few,
--- packed-carried, packed-unclosed.
+-- Proves: closed-nothing, closingActions-nothing, carried-refused, carried-made, carried-noted, carried-quiet, carried-set, carried-take,
+-- settled-past, made-few, packed-made, packed-unclosed.
 use mathlib.Core.Path.{_≡_, refl, sym, ap, ap₂, subst, _∙_}
 use mathlib.Core.Bool.{true, false}
 use mathlib.Core.List.{List, [], _∷_, _++_, map, append-nil}
-use Prim.Native.Nat.{ℕ, zero, suc, _+_, _≤_}
+use Prim.Native.Nat.{ℕ, zero, suc, _+_, _≤_, _<_}
 use native.Mathlib.Omega.{arith}
 use lib.ListN.{length, set, length-append, length-map}
+use borrow.Author.Tests.{eq-eqb, ne-eqb}
 use Rattle.wire.specs.Refusals as refusal
 use Rattle.record.specs.declared.partner.Partner.{Partner}
 use Rattle.record.specs.declared.event.Event.{Event}
@@ -24,12 +25,15 @@ use Rattle.place.specs.declared.turn.Turn.the-variants.{Stays, Sends}
 use Rattle.place.specs.declared.turn.Closing.{Closing}
 use Rattle.place.specs.declared.turn.Closing.the-variants.{Every, Sessions, Nothing}
 use Rattle.unit.specs.States.{placeCount}
-use Rattle.unit.specs.Steps.{done, act, actionsIn, withTrain, withMarks, withPlaces, closed, closingActions, closePlaces, takenIn, step}
+use Rattle.unit.specs.Steps.{refusedAt, done, act, actionsIn, withTrain, withMarks, withPlaces, closed, closingActions, closePlaces, takenIn, step}
 use Rattle.unit.specs.Forms.{mostActions, listed, pushAll, packed}
-use Rattle.unit.specs.Changes.{noted, closesAny, settled, carried}
+use Rattle.unit.specs.Changes.{noted, closesAny, settled, made, carried}
 use Rattle.unit.specs.declared.state.Train.{Train}
 use Rattle.unit.specs.declared.state.Marks.{Marks}
 use Rattle.unit.specs.declared.state.State.{State}
+use Rattle.unit.specs.declared.search.Standing.{Standing}
+use Rattle.unit.specs.declared.answer.Action.{Action}
+use Rattle.unit.specs.declared.answer.Actions.{Actions}
 use Rattle.unit.specs.declared.answer.Answer.{Answer}
 use Rattle.unit.specs.declared.change.Change.{Change}
 use Rattle.unit.proofs.Weights.{length-closed}
@@ -66,51 +70,48 @@ set-past (q ∷ ps) zero p above = absurd (omega arith)
 set-past (q ∷ ps) (suc i) p above = ap (_∷_ q) (set-past ps i p (omega arith))
 
 module _ (s : State) where
-  module _ (four : length (s .places) ≡ placeCount) (r : ℕ) (t : Train) (m : Marks) where
+  -- a change that is refused: the state as it is, and where the partner stands
+  pub carried-refused : (c : Change) → refusal.accepted < c .code → carried s c ≡ refusedAt (c .code) (c .standing) s
+  unfolding carried
+  carried-refused c numbered = simp (ne-eqb (c .code) refusal.accepted (λ none. omega arith))
+
+  -- one that is accepted
+  pub carried-made : (c : Change) → c .code ≡ refusal.accepted → carried s c ≡ made s c
+  unfolding carried
+  carried-made c accepted = simp (eq-eqb (c .code) refusal.accepted accepted)
+
+  module _ (four : length (s .places) ≡ placeCount) (t : Train) (m : Marks) (w : Standing) where
     -- a change that sets no place: the closings alone
     pub carried-noted : (which : Closing)
-        → carried s (noted r t m which)
-        ≡ record { code = r; state = withPlaces (withMarks (withTrain s t) m) (closed which (s .places)); actions = closingActions which (s .places) }
-    unfolding carried settled noted
+        → carried s (noted refusal.accepted t m which w)
+        ≡ done (withPlaces (withMarks (withTrain s t) m) (closed which (s .places))) (closingActions which (s .places))
+    unfolding carried made settled noted
     carried-noted which =
         let past : length (closed which (s .places)) ≤ placeCount = rw (length-closed which (s .places)) (omega (arith, four)) in
         λ i.
-        record {
-          code = r;
-          state = withPlaces (withMarks (withTrain s t) m) (set-past (closed which (s .places)) placeCount vacant past i);
-          actions = append-nil (closingActions which (s .places)) i;
-        }
+        done (withPlaces (withMarks (withTrain s t) m) (set-past (closed which (s .places)) placeCount vacant past i))
+        (append-nil (closingActions which (s .places)) i)
 
     -- and with no closing: the train and the marks alone
-    pub carried-quiet : carried s (noted r t m Nothing) ≡ record { code = r; state = withMarks (withTrain s t) m; actions = [] }
+    pub carried-quiet : carried s (noted refusal.accepted t m Nothing w) ≡ done (withMarks (withTrain s t) m) []
     carried-quiet =
         carried-noted Nothing
-        ∙ (λ i.
-        record {
-          code = r;
-          state = withPlaces (withMarks (withTrain s t) m) (closed-nothing (s .places) i);
-          actions = closingActions-nothing (s .places) i;
-        })
+        ∙ (λ i. done (withPlaces (withMarks (withTrain s t) m) (closed-nothing (s .places) i)) (closingActions-nothing (s .places) i))
 
   -- one place set, none closed
-  pub carried-set : (at : ℕ) (place : Place) (p : Partner) (t : Turn)
-      → carried s (record { code = refusal.accepted; train = s .train; marks = s .marks; which = Nothing; at = at; place = place; partner = p; turn = t })
+  pub carried-set : (at : ℕ) (place : Place) (p : Partner) (t : Turn) (w : Standing)
+      → carried s (record { code = refusal.accepted; train = s .train; marks = s .marks; which = Nothing; at = at; place = place; partner = p; turn = t; standing = w })
       ≡ done (withPlaces s (set (s .places) at place)) (map (act p) (numbers t))
-  unfolding carried settled
-  carried-set at place p t =
-      λ i.
-      record {
-        code = refusal.accepted;
-        state = withPlaces s (set (closed-nothing (s .places) i) at place);
-        actions = closingActions-nothing (s .places) i ++ map (act p) (numbers t);
-      }
+  unfolding carried made settled
+  carried-set at place p t w =
+      λ i. done (withPlaces s (set (closed-nothing (s .places) i) at place)) (closingActions-nothing (s .places) i ++ map (act p) (numbers t))
 
   -- a partner taken in after the closings
-  pub carried-take : (m : Marks) (which : Closing) (at : ℕ) (p : Partner)
-      → carried s (record { code = refusal.accepted; train = s .train; marks = m; which = which; at = at; place = seat Outgoing (Connecting firstTry) p; partner = p; turn = Sends request (Connecting firstTry) })
+  pub carried-take : (m : Marks) (which : Closing) (at : ℕ) (p : Partner) (w : Standing)
+      → carried s (record { code = refusal.accepted; train = s .train; marks = m; which = which; at = at; place = seat Outgoing (Connecting firstTry) p; partner = p; turn = Sends request (Connecting firstTry); standing = w })
       ≡ takenIn (closePlaces which (withMarks s m)) at p
-  unfolding carried settled
-  carried-take m which at p = refl
+  unfolding carried made settled
+  carried-take m which at p w = refl
 
   module _ (c : Change) where
     -- past the last place none is set
@@ -119,39 +120,37 @@ module _ (s : State) where
     settled-past above = sym (ap (withPlaces (withMarks (withTrain s (c .train)) (c .marks))) (set-past (s .places) (c .at) (c .place) above))
 
     -- a change that is a step has at most four actions
-    pub carried-few : (n : ℕ) (four : length (s .places) ≡ placeCount) (e : Event)
-        → carried s c ≡ step n s e
-        → length (carried s c .actions) ≤ mostActions
-    carried-few n four e is = subst (λ o. length (o .actions) ≤ mostActions) (sym is) (step-few n s four e)
+    pub made-few : (n : ℕ) (four : length (s .places) ≡ placeCount) (e : Event)
+        → made s c ≡ step n s e
+        → length (made s c .actions) ≤ mostActions
+    made-few n four e is = subst (λ o. length (o .actions) ≤ mostActions) (sym is) (step-few n s four e)
 
-    -- the code carries it out: the closings, the place, the actions
-    pub packed-carried :
-        length (carried s c .actions) ≤ mostActions
-        → _≡_ {A = Answer} (record { code = c .code; state = settled (withPlaces s (closed (c .which) (s .places))) c; actions = pushAll (listed (closingActions (c .which) (s .places))) (c .partner) (numbers (c .turn)) }) (packed (carried s c))
-    unfolding carried settled packed
-    packed-carried few =
-        let long = length-append (closingActions (c .which) (s .places)) (map (act (c .partner)) (numbers (c .turn))) in
-        let sent = length-map (numbers (c .turn)) (act (c .partner)) in
-        λ i.
-        record {
-          code = c .code;
-          state = settled (withPlaces s (closed (c .which) (s .places))) c;
-          actions = send-listed (closingActions (c .which) (s .places)) (c .partner) (numbers (c .turn)) (omega (arith, few, long, sent)) i;
-        }
+    -- the code makes it: the closings, the place, the actions
+    module _ (few : length (made s c .actions) ≤ mostActions) (r : Answer) (next : State) (sent : Actions)
+        (answer : (acts : List Action) → sent ≡ listed acts → r ≡ packed (done next acts)) where
+      pub packed-made :
+          next ≡ settled (withPlaces s (closed (c .which) (s .places))) c
+          → sent ≡ pushAll (listed (closingActions (c .which) (s .places))) (c .partner) (numbers (c .turn))
+          → r ≡ packed (made s c)
+      unfolding made
+      packed-made state pushes =
+          let acts = closingActions (c .which) (s .places) ++ map (act (c .partner)) (numbers (c .turn)) in
+          let long = length-append (closingActions (c .which) (s .places)) (map (act (c .partner)) (numbers (c .turn))) in
+          let own = length-map (numbers (c .turn)) (act (c .partner)) in
+          answer acts
+          (pushes ∙ send-listed (closingActions (c .which) (s .places)) (c .partner) (numbers (c .turn)) (omega (arith, few, long, own)))
+          ∙ ap (λ t. packed (done t acts)) state
 
-    -- with no closing, on the state as it is
-    pub packed-unclosed :
-        length (carried s c .actions) ≤ mostActions
-        → closesAny (c .which) ≡ false
-        → _≡_ {A = Answer} (record { code = c .code; state = settled s c; actions = pushAll (listed []) (c .partner) (numbers (c .turn)) }) (packed (carried s c))
-    packed-unclosed few nothing-closed =
-        let none = closesAny-none (c .which) nothing-closed in
-        let unclosed : closed (c .which) (s .places) ≡ s .places = ap (λ w. closed w (s .places)) none ∙ closed-nothing (s .places) in
-        let unsent : closingActions (c .which) (s .places) ≡ [] = ap (λ w. closingActions w (s .places)) none ∙ closingActions-nothing (s .places) in
-        sym (λ i.
-        record {
-          code = c .code;
-          state = settled (withPlaces s (unclosed i)) c;
-          actions = pushAll (listed (unsent i)) (c .partner) (numbers (c .turn));
-        })
-        ∙ packed-carried few
+      -- with no closing, on the state as it is
+      pub packed-unclosed :
+          closesAny (c .which) ≡ false
+          → next ≡ settled s c
+          → sent ≡ pushAll (listed []) (c .partner) (numbers (c .turn))
+          → r ≡ packed (made s c)
+      packed-unclosed nothing-closed state pushes =
+          let none = closesAny-none (c .which) nothing-closed in
+          let unclosed : closed (c .which) (s .places) ≡ s .places = ap (λ w. closed w (s .places)) none ∙ closed-nothing (s .places) in
+          let unsent : closingActions (c .which) (s .places) ≡ [] = ap (λ w. closingActions w (s .places)) none ∙ closingActions-nothing (s .places) in
+          packed-made
+          (state ∙ ap (λ ps. settled (withPlaces s ps) c) (sym unclosed))
+          (pushes ∙ ap (λ acts. pushAll (listed acts) (c .partner) (numbers (c .turn))) (sym unsent))

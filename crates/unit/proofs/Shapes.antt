@@ -1,8 +1,9 @@
 -- A law of every step is one of each shape that a step's outcome can have, and one of every record is one of every refusal and of
 -- every step.
--- Defines: StepRefusal, RecordRefusal, InRange, Shape.
--- Proves: shape, on-record, by-concern.
-use mathlib.Core.Path.{_≡_, refl}
+-- Defines: StepRefusal, RecordRefusal, InRange, ToldOf, Told, Shape.
+-- Proves: told-none, shape, by-reading, on-record, by-concern.
+use mathlib.Core.Path.{_≡_, refl, sym, ap}
+use mathlib.Core.Logic.{inl, inr}
 use mathlib.Core.Bool.{Bool, true, false, _&&_, not}
 use mathlib.Core.List.{List, []}
 use Prim.Native.Nat.{ℕ, _≤_}
@@ -21,21 +22,29 @@ use Rattle.record.specs.declared.event.Event.{Event}
 use Rattle.record.specs.declared.event.Event.the-variants.{Level, Mission, Mode, Hole, Order, EndAll, Call, Named}
 use Rattle.record.specs.declared.event.Reading.{Reading}
 use Rattle.record.specs.declared.event.Reading.the-variants.{Meant, Refused}
-use Rattle.wire.proofs.Tests.{and-left, and-right, and-both, cond-case}
+use Rattle.wire.proofs.Tests.{and-left, and-right, and-both, cond-case, true-false}
 use Rattle.record.proofs.Ranges.{reading-ok}
 use Rattle.place.specs.Places.{vacant}
-use Rattle.place.specs.Table.{placeTurn, takes}
+use Rattle.place.specs.Table.{turn, takes}
+use Rattle.place.proofs.Holdings.{holdsIn, phaseHeld, holdingTurn}
+use Rattle.place.specs.declared.phase.Phase.{Phase}
+use Rattle.place.specs.declared.place.Holding.{Holding}
+use Rattle.place.specs.declared.place.Holding.the-variants.{Free, Held}
+use Rattle.place.specs.declared.place.Place.{Place}
+use Rattle.place.specs.declared.limits.Limits.{Limits}
 use Rattle.place.specs.declared.turn.Closing.{Closing}
 use Rattle.place.specs.declared.turn.Closing.the-variants.{Every}
-use Rattle.unit.specs.States.{seek, trainOk, marksOk, sound}
-use Rattle.unit.specs.Steps.{Outcome, refused, done, withTrain, withMarks, markHole, holeTaken, inForce, spend, displaced, closePlaces, takenIn, orderedAt, calledAt, turnedAt, namedAt, step}
-use Rattle.unit.specs.Concerns.{Concern, nobody, orderTo, callOf, naming, concern, concernOf}
+use Rattle.unit.specs.States.{seek, nowhere, standing, trainOk, marksOk, sound}
+use Rattle.unit.specs.Steps.{Outcome, refusedAt, refused, done, withTrain, withMarks, markHole, holeTaken, inForce, spend, displaced, closePlaces, takenIn, admitted, orderedAt, calledAt, turnedAt, namedAt, step}
+use Rattle.unit.specs.Standings.{Numbered, Concern, nobody, orderTo, callOf, naming, concern, concernOf}
 use Rattle.unit.specs.OnRecords.{actionRoom, onReading, onRecord}
 use Rattle.unit.specs.declared.state.Train.{Train}
 use Rattle.unit.specs.declared.state.Marks.{Marks}
 use Rattle.unit.specs.declared.state.State.{State}
 use Rattle.unit.specs.declared.search.Found.{Found}
 use Rattle.unit.specs.declared.search.Found.the-variants.{At, Vacant, Full}
+use Rattle.unit.specs.declared.search.Standing.{Standing}
+use Rattle.unit.proofs.Searches.{found-ok}
 
 -- the numbers with which a step on an event may be refused, 4 to 9
 abbrev pub StepRefusal : ℕ → Type 0
@@ -53,12 +62,40 @@ InRange s e t m =
     → eventOk e ≡ true
     → (trainOk t ≡ true) × (marksOk m ≡ true)
 
+-- the place and phase that an answer with this number carries: with 5 and 7 those in which the partner was found
+pub data ToldOf (ps : List Place) (p : Partner) (r : ℕ) : Standing → Type 0 where
+  says : (i : ℕ) (ph : Phase)
+      → seek p ps ≡ At i ph
+      → Numbered r
+      → ToldOf ps p r (standing (At i ph))
+  silent :
+      (r ≡ refusal.hasPlace → ⊥)
+      → (r ≡ refusal.notTaken → ⊥)
+      → ToldOf ps p r nowhere
+
+abbrev pub Told : List Place → Concern → ℕ → Standing → Type 0
+Told ps nobody r w = w ≡ nowhere
+Told ps (orderTo p) r w = ToldOf ps p r w
+Told ps (callOf p) r w = ToldOf ps p r w
+Told ps (naming p e) r w = ToldOf ps p r w
+
+-- with another number than 5 and 7 nothing is told, whomever the event concerns
+pub told-none : (ps : List Place) (c : Concern) (r : ℕ)
+    → (r ≡ refusal.hasPlace → ⊥)
+    → (r ≡ refusal.notTaken → ⊥)
+    → Told ps c r nowhere
+told-none ps nobody r five seven = refl
+told-none ps (orderTo p) r five seven = silent five seven
+told-none ps (callOf p) r five seven = silent five seven
+told-none ps (naming p e) r five seven = silent five seven
+
 -- the shapes of a step's outcome, by whom its event concerns
 pub data Shape (n : ℕ) (s : State) (e : Event) : Concern → Outcome → Type 0 where
   -- "A refused step .. returns its number, the state as given, counts 0"
-  refuses : {c : Concern} (r : ℕ)
+  refuses : {c : Concern} {w : Standing} (r : ℕ)
       → StepRefusal r
-      → Shape n s e c (refused r s)
+      → Told (s .places) c r w
+      → Shape n s e c (refusedAt r w s)
   -- train and marks noted
   notes : (t : Train) (m : Marks)
       → InRange s e t m
@@ -78,12 +115,12 @@ pub data Shape (n : ℕ) (s : State) (e : Event) : Concern → Outcome → Type 
       → (eventOk e ≡ true → partnerOk p ≡ true)
       → isRbc p ≡ true
       → seek p (s .places) ≡ Vacant i
-      → Shape n s e (callOf p) (calledAt s p (Vacant i))
+      → Shape n s e (callOf p) (calledAt s p i)
   -- a turn of the place that a partner has
-  turns : (p : Partner) (event : PartnerEvent) (i : ℕ)
-      → seek p (s .places) ≡ At i
-      → takes (placeTurn n (s .limits) (getD (s .places) i vacant) event) ≡ true
-      → Shape n s e (naming p event) (turnedAt s i p (placeTurn n (s .limits) (getD (s .places) i vacant) event))
+  turns : (p : Partner) (event : PartnerEvent) (i : ℕ) {ph : Phase}
+      → seek p (s .places) ≡ At i ph
+      → takes (holdingTurn n (s .limits) (getD (s .places) i vacant .holding) event) ≡ true
+      → Shape n s e (naming p event) (turnedAt s i p (holdingTurn n (s .limits) (getD (s .places) i vacant .holding) event))
 
 -- "'inside a hole' and 'hole end' are not both 1", after an order's mark is cleared and after a hole
 spend-marks : (cause : Cause) (m : Marks) → marksOk m ≡ true → marksOk (spend cause m) ≡ true
@@ -101,35 +138,46 @@ hole-marks : (entered : Bool) → not (entered && not entered) ≡ true
 hole-marks true = refl
 hole-marks false = refl
 
+-- the place that holds a partner turns by the phase that it was found in
+turn-held : (n : ℕ) (l : Limits) (e : PartnerEvent) (p : Partner) (ph : Phase) (k : Holding)
+    → holdsIn p k ≡ true
+    → phaseHeld k ≡ ph
+    → turn n l ph e ≡ holdingTurn n l k e
+turn-held n l e p ph Free held is = true-false false held refl
+turn-held n l e p ph (Held d q r) held is = ap (λ x. turn n l x e) (sym is)
+
 module _ (n : ℕ) (s : State) where
   ordered-shape : (p : Partner) (accepting : Bool) (cause : Cause) (found : Found)
       → seek p (s .places) ≡ found
-      → Shape n s (Order p accepting cause) (orderTo p) (orderedAt s p accepting cause found)
-  ordered-shape p accepting cause (At i) found = refuses refusal.hasPlace (omega arith)
+      → Shape n s (Order p accepting cause) (orderTo p) (admitted s (orderedAt s p accepting cause) found)
+  ordered-shape p accepting cause (At i ph) found = refuses refusal.hasPlace (omega arith) (says i ph found (inl refl))
   ordered-shape p accepting cause (Vacant i) found =
       orders p (displaced p accepting) (spend cause (s .marks)) i
       (λ train marks ok. (train, spend-marks cause (s .marks) marks))
       (λ ok. ok)
       found
-  ordered-shape p accepting cause Full found = refuses refusal.allTaken (omega arith)
+  ordered-shape p accepting cause Full found = refuses refusal.allTaken (omega arith) (told-none (s .places) (orderTo p) refusal.allTaken (λ h. omega arith) (λ h. omega arith))
 
   called-shape : (p : Partner) → isRbc p ≡ true → (found : Found)
       → seek p (s .places) ≡ found
-      → Shape n s (Call p) (callOf p) (calledAt s p found)
-  called-shape p rbc (At i) found = refuses refusal.hasPlace (omega arith)
+      → Shape n s (Call p) (callOf p) (admitted s (calledAt s p) found)
+  called-shape p rbc (At i ph) found = refuses refusal.hasPlace (omega arith) (says i ph found (inl refl))
   called-shape p rbc (Vacant i) found = calls p i (λ ok. ok) rbc found
-  called-shape p rbc Full found = refuses refusal.allTaken (omega arith)
+  called-shape p rbc Full found = refuses refusal.allTaken (omega arith) (told-none (s .places) (callOf p) refusal.allTaken (λ h. omega arith) (λ h. omega arith))
 
   named-shape : (p : Partner) (e : PartnerEvent) (found : Found)
       → seek p (s .places) ≡ found
       → Shape n s (Named p e) (naming p e) (namedAt n s p e found)
-  named-shape p e (At i) found =
-      let t = placeTurn n (s .limits) (getD (s .places) i vacant) e in
-      cond-case (Shape n s (Named p e) (naming p e)) (takes t) _ _
+  named-shape p e (At i ph) found =
+      let ok = found-ok p (s .places) (At i ph) found in
+      let same = turn-held n (s .limits) e p ph (getD (s .places) i vacant .holding) (ok .1) (ok .2) in
+      rw same (
+      cond-case (Shape n s (Named p e) (naming p e)) (takes (holdingTurn n (s .limits) (getD (s .places) i vacant .holding) e)) _ _
       (λ taken. turns p e i found taken)
-      (λ other. refuses refusal.notTaken (omega arith))
-  named-shape p e (Vacant i) found = refuses refusal.hasNone (omega arith)
-  named-shape p e Full found = refuses refusal.hasNone (omega arith)
+      (λ other. refuses refusal.notTaken (omega arith) (says i ph found (inr refl)))
+      )
+  named-shape p e (Vacant i) found = refuses refusal.hasNone (omega arith) (told-none (s .places) (naming p e) refusal.hasNone (λ h. omega arith) (λ h. omega arith))
+  named-shape p e Full found = refuses refusal.hasNone (omega arith) (told-none (s .places) (naming p e) refusal.hasNone (λ h. omega arith) (λ h. omega arith))
 
   -- every step has one of the shapes
   pub shape : (e : Event) → Shape n s e (concern e) (step n s e)
@@ -148,37 +196,46 @@ module _ (n : ℕ) (s : State) where
   shape (Hole entered) =
       cond-case (Shape n s (Hole entered) nobody) (holeTaken (s .marks) entered) _ _
       (λ taken. notes (s .train) (markHole (s .marks) entered) (λ train marks ok. (train, hole-marks entered)))
-      (λ other. refuses refusal.notTaken (omega arith))
+      (λ other. refuses refusal.notTaken (omega arith) refl)
   shape (Order p accepting cause) =
       cond-case (Shape n s (Order p accepting cause) (orderTo p)) (inForce cause (s .train) (s .marks)) _ _
       (λ in-force. ordered-shape p accepting cause (seek p (s .places)) refl)
-      (λ other. refuses refusal.notInForce (omega arith))
+      (λ other. refuses refusal.notInForce (omega arith) (told-none (s .places) (orderTo p) refusal.notInForce (λ h. omega arith) (λ h. omega arith)))
   shape EndAll = closesEvery (s .train) (λ train marks ok. (train, marks))
   shape (Call p) =
       cond-case (Shape n s (Call p) (callOf p)) (isRbc p) _ _
       (λ rbc. called-shape p rbc (seek p (s .places)) refl)
-      (λ riu. refuses refusal.callFromRiu (omega arith))
+      (λ riu. refuses refusal.callFromRiu (omega arith) (told-none (s .places) (callOf p) refusal.callFromRiu (λ h. omega arith) (λ h. omega arith)))
   shape (Named p e) = named-shape p e (seek p (s .places)) refl
+
+  -- a law of a step on a record, by what the record and the state are refused for
+  pub by-reading : (P : Outcome → Type 0) (bytes : List ℕ) (room : ℕ)
+      → P (refused refusal.noRoom s)
+      → P (refused refusal.notSound s)
+      → ((r : ℕ) → reading bytes ≡ Refused r → refusal.wrongLength ≤ r → r ≤ refusal.outOfRange → P (refused r s))
+      → ((e : Event) → reading bytes ≡ Meant e → sound n s ≡ true → eventOk e ≡ true → P (step n s e))
+      → P (onRecord n s bytes room)
+  unfolding onRecord
+  by-reading P bytes room no-room not-sound unread steps =
+      cond-case P (leb actionRoom room) _ _
+      (λ enough. cond-case P (sound n s) _ _ (by (reading bytes) refl (reading-ok bytes)) (λ unsound. not-sound))
+      (λ small. no-room)
+    where
+      by : (r : Reading) → reading bytes ≡ r → readingOk r ≡ true → sound n s ≡ true → P (onReading n s r)
+      by (Meant e) is ok good = steps e is good ok
+      by (Refused r) is ok good =
+          unread r is
+          (leb-true refusal.wrongLength r (and-left (leb refusal.wrongLength r) (leb r refusal.outOfRange) ok))
+          (leb-true r refusal.outOfRange (and-right (leb refusal.wrongLength r) (leb r refusal.outOfRange) ok))
 
   -- what holds of every refusal and of every step on an event holds of every record and room
   pub on-record : (P : Outcome → Type 0) (bytes : List ℕ) (room : ℕ)
       → ((r : ℕ) → RecordRefusal r → P (refused r s))
       → ((e : Event) → reading bytes ≡ Meant e → sound n s ≡ true → eventOk e ≡ true → P (step n s e))
       → P (onRecord n s bytes room)
-  unfolding onRecord
-  on-record P bytes room refusals steps =
-      cond-case P (leb actionRoom room) _ _
-      (λ enough.
-      cond-case P (sound n s) _ _ (by (reading bytes) refl (reading-ok bytes))
-      (λ unsound. refusals refusal.notSound (omega arith)))
-      (λ small. refusals refusal.noRoom (omega arith))
-    where
-      by : (r : Reading) → reading bytes ≡ r → readingOk r ≡ true → sound n s ≡ true → P (onReading n s r)
-      by (Meant e) is ok good = steps e is good ok
-      by (Refused r) is ok good =
-          let low = leb-true refusal.wrongLength r (and-left (leb refusal.wrongLength r) (leb r refusal.outOfRange) ok) in
-          let high = leb-true r refusal.outOfRange (and-right (leb refusal.wrongLength r) (leb r refusal.outOfRange) ok) in
-          refusals r (omega arith)
+  on-record P bytes room refusals =
+      by-reading P bytes room (refusals refusal.noRoom (omega arith)) (refusals refusal.notSound (omega arith))
+      (λ r is low high. refusals r (omega arith))
 
   -- the same of a law that goes by whom the record concerns
   pub by-concern : (P : Concern → Outcome → Type 0) (bytes : List ℕ) (room : ℕ)

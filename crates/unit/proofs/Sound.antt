@@ -14,7 +14,8 @@ use Rattle.record.specs.declared.partner.Partner.{Partner}
 use Rattle.record.specs.declared.event.Event.{Event}
 use Rattle.wire.proofs.Tests.{and-both}
 use Rattle.place.specs.Places.{vacant, seat, holds, placeOk}
-use Rattle.place.specs.Table.{firstTry, placeAfter, placeTurn}
+use Rattle.place.proofs.Holdings.{holdingTurn}
+use Rattle.place.specs.Table.{firstTry, placeAfter}
 use Rattle.place.specs.declared.phase.Phase.{Phase}
 use Rattle.place.specs.declared.phase.Phase.the-variants.{Connecting, Open}
 use Rattle.place.specs.declared.place.Direction.{Direction}
@@ -24,12 +25,12 @@ use Rattle.place.specs.declared.turn.Closing.the-variants.{Every}
 use Rattle.place.proofs.Turns.{event-sound, after-holds}
 use Rattle.unit.specs.States.{trainOk, marksOk, sound}
 use Rattle.unit.specs.Steps.{Outcome, closed, step}
-use Rattle.unit.specs.Concerns.{Concern}
+use Rattle.unit.specs.Standings.{Concern}
 use Rattle.unit.specs.OnRecords.{onRecord}
 use Rattle.unit.specs.declared.state.Train.{Train}
 use Rattle.unit.specs.declared.state.Marks.{Marks}
 use Rattle.unit.specs.declared.state.State.{State}
-use Rattle.unit.specs.declared.search.Found.the-variants.{At, Vacant}
+use Rattle.unit.specs.declared.search.Found.the-variants.{Vacant}
 use Rattle.unit.proofs.Shapes.{Shape, refuses, notes, closesEvery, orders, calls, turns, shape, on-record}
 use Rattle.unit.proofs.Weights.{length-closed}
 use Rattle.unit.specs.Kept.{here, weigh}
@@ -60,7 +61,7 @@ module _ (n : ℕ) (some-try : 1 ≤ n) (s : State) (f : Facts n s) where
       (take-facts n ps i d ph p facts (omega arith) good absent)
 
   facts : {e : Event} {c : Concern} {o : Outcome} → Shape n s e c o → eventOk e ≡ true → Facts n (o .state)
-  facts (refuses r may) event = f
+  facts (refuses r may said) event = f
   facts (notes t m within) event = with-places m t (s .places) (within (f .train) (f .marks) event) refl (f .places)
   facts (closesEvery t within) event =
       with-places (s .marks) t (closed Every (s .places)) (within (f .train) (f .marks) event) (length-closed Every (s .places))
@@ -82,9 +83,9 @@ module _ (n : ℕ) (some-try : 1 ≤ n) (s : State) (f : Facts n s) where
       (free .2)
   facts (turns p e i found taken) event =
       let place = getD (s .places) i vacant in
-      let t = placeTurn n (s .limits) place e in
+      let t = holdingTurn n (s .limits) (place .holding) e in
       let next = placeAfter place t in
-      let below = found-ok p (s .places) (At i) found .0 in
+      let below = found-ok p (s .places) _ found .0 in
       with-places (s .marks) (s .train) (set (s .places) i next) (f .train, f .marks) (length-set (s .places) i next)
       (set-facts n (s .places) i next (f .places) below
       (event-sound n some-try (s .limits) (place .holding) e (place-at n (s .places) i (f .places) below))

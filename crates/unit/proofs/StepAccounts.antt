@@ -27,10 +27,10 @@ use Rattle.place.specs.declared.place.Place.{Place}
 use Rattle.place.specs.declared.turn.Closing.{Closing}
 use Rattle.place.specs.declared.turn.Closing.the-variants.{Every}
 use Rattle.unit.specs.Steps.{Outcome, refused, act, closed, closingActions, step}
-use Rattle.unit.specs.Concerns.{Concern, nobody, orderTo, callOf, naming, concern}
+use Rattle.unit.specs.Standings.{Concern, nobody, orderTo, callOf, naming, concern}
 use Rattle.unit.specs.Kept.{count, once, weigh}
 use Rattle.unit.specs.declared.state.State.{State}
-use Rattle.unit.specs.declared.search.Found.the-variants.{At, Vacant}
+use Rattle.unit.specs.declared.search.Found.the-variants.{Vacant}
 use Rattle.unit.proofs.Shapes.{Shape, refuses, notes, closesEvery, orders, calls, turns, shape}
 use Rattle.unit.proofs.Weights.{weigh-set, length-closed, closed-at}
 use Rattle.unit.proofs.Searches.{found-ok}
@@ -100,7 +100,7 @@ module _ (m : Sense) (n : ℕ) (σ : Scale) (balanced : Balanced m n σ) (mine :
 
     account : {e : Event} {c : Concern} {o : Outcome} → Shape n s e c o → Account m σ mine s (broughtTo σ mine c) o
     unfolding count
-    account (refuses {c = c} r may) = refused-account (broughtTo σ mine c) r (λ none. omega arith)
+    account (refuses {c = c} r may said) = refused-account (broughtTo σ mine c) r (λ none. omega arith)
     account (notes t marks within) = level m _ _ (omega arith)
     account (closesEvery t within) = closedBy-account m σ mine n balanced Every (s .places)
     account (orders p which marks i within ok found) =
@@ -117,7 +117,7 @@ module _ (m : Sense) (n : ℕ) (σ : Scale) (balanced : Balanced m n σ) (mine :
         taken-account (s .places) i established (σ .call) Incoming Open p (free .0) (free .1) (balanced .called)
     account (turns p event i found taken) =
         let place = getD (s .places) i vacant in
-        let at = found-ok p (s .places) (At i) found in
+        let at = found-ok p (s .places) _ found in
         stored m _ _ _ _ _ _ (weigh-set (weightOf σ mine) (s .places) i _ (at .0))
         (held-account m σ mine n balanced (s .limits) p event (place .holding) (at .1))
 

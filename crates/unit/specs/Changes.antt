@@ -1,25 +1,28 @@
 -- Only private contracts use what stands here: a step as the code reads it before it is carried out.
--- Defines: noted, closesAny, settled, carried.
+-- Defines: noted, closesAny, settled, made, carried.
 use Rattle.place.specs.declared.turn.Closing.{Closing}
 use Rattle.place.specs.declared.turn.Closing.the-variants.{Every, Sessions, Nothing}
 use Rattle.place.specs.declared.turn.Turn.the-variants.{Stays}
 use Rattle.unit.specs.declared.state.Train.{Train}
 use Rattle.unit.specs.declared.state.Marks.{Marks}
 use Rattle.unit.specs.declared.state.State.{State}
+use Rattle.unit.specs.declared.search.Standing.{Standing}
 use Rattle.unit.specs.declared.change.Change.{Change}
-use Prim.Native.Nat.{ℕ, _+_}
-use mathlib.Core.Bool.{Bool, true, false}
+use Prim.Native.Nat.{ℕ}
+use mathlib.Core.Bool.{Bool, true, false, cond}
 use mathlib.Core.List.{_++_, map}
+use lib.Dec.{eqb}
 use lib.ListN.{set}
+use Rattle.wire.specs.Refusals.{accepted}
 use Rattle.unit.specs.Forms.{noAction}
 use Rattle.unit.specs.States.{placeCount}
 use Rattle.place.specs.Places.{vacant}
 use Rattle.place.specs.Table.{numbers}
-use Rattle.unit.specs.Steps.{act, withPlaces, closed, closingActions, Outcome}
+use Rattle.unit.specs.Steps.{Outcome, refusedAt, done, act, withPlaces, closed, closingActions}
 
 -- a change that sets no place
-unfoldable pub noted : ℕ → Train → Marks → Closing → Change
-noted r t m which =
+unfoldable pub noted : ℕ → Train → Marks → Closing → Standing → Change
+noted r t m which w =
     record {
       code = r;
       train = t;
@@ -29,6 +32,7 @@ noted r t m which =
       place = vacant;
       partner = noAction .partner;
       turn = Stays;
+      standing = w;
     }
 
 -- the closing is for some place
@@ -41,11 +45,12 @@ closesAny Nothing = false
 unfoldable pub settled : State → Change → State
 settled s c = record { limits = s .limits; train = c .train; marks = c .marks; places = set (s .places) (c .at) (c .place) }
 
--- a change carried out: first the closings, then the place and the actions of its turn
+-- what a change makes of a state: first the closings, then the place and the actions of its turn
+unfoldable pub made : State → Change → Outcome
+made s c =
+    done (settled (withPlaces s (closed (c .which) (s .places))) c)
+    (closingActions (c .which) (s .places) ++ map (act (c .partner)) (numbers (c .turn)))
+
+-- a change carried out, or refused
 unfoldable pub carried : State → Change → Outcome
-carried s c =
-    record {
-      code = c .code;
-      state = settled (withPlaces s (closed (c .which) (s .places))) c;
-      actions = closingActions (c .which) (s .places) ++ map (act (c .partner)) (numbers (c .turn));
-    }
+carried s c = cond (eqb (c .code) accepted) (made s c) (refusedAt (c .code) (c .standing) s)

@@ -1,46 +1,18 @@
--- Only laws for crates above speak of what stands here: whom an event concerns, and the actions and places of any choice of
--- partners.
--- Defines: Concern, concern, concernOf, stirring, stirs, takesIn, actionFor, releaseFor, otherFor, heldBy, placeOf,
--- isConnecting, heldPast, placePast.
+-- Only laws for crates above speak of what stands here: the events, actions and places of any choice of partners.
+-- Defines: stirring, stirs, takesIn, actionFor, releaseFor, otherFor, heldBy, placeOf, isConnecting, heldPast, placePast.
 use mathlib.Core.Bool.{Bool, true, false, _&&_, not}
 use lib.Dec.{eqb}
 use Rattle.record.specs.declared.partner.Partner.{Partner}
 use Rattle.record.specs.declared.event.PartnerEvent.{PartnerEvent}
 use Rattle.record.specs.declared.event.PartnerEvent.the-variants.{Drop, Up, Loss, Timeout, Version, Ended}
-use Rattle.record.specs.declared.event.Event.{Event}
-use Rattle.record.specs.declared.event.Event.the-variants.{Level, Mission, Mode, Hole, Order, EndAll, Call, Named}
-use Rattle.record.specs.declared.event.Reading.{Reading}
-use Rattle.record.specs.declared.event.Reading.the-variants.{Meant, Refused}
 use Rattle.place.specs.Table.{release}
 use Rattle.place.specs.declared.phase.Phase.{Phase}
 use Rattle.place.specs.declared.phase.Phase.the-variants.{Connecting, Contacting, Open, Lost, Ending}
 use Rattle.place.specs.declared.place.Holding.{Holding}
 use Rattle.place.specs.declared.place.Holding.the-variants.{Free, Held}
 use Rattle.place.specs.declared.place.Place.{Place}
+use Rattle.unit.specs.Standings.{Concern, nobody, orderTo, callOf, naming}
 use Rattle.unit.specs.declared.answer.Action.{Action}
-
--- nobody, the partner of an order, the partner that calls, or the one that another event names
-pub data Concern : Type 0 where
-  nobody : Concern
-  orderTo : Partner → Concern
-  callOf : Partner → Concern
-  naming : Partner → PartnerEvent → Concern
-
--- whom an event concerns
-abbrev pub concern : Event → Concern
-concern (Level level manual) = nobody
-concern (Mission mission) = nobody
-concern Mode = nobody
-concern (Hole entered) = nobody
-concern (Order p accepting cause) = orderTo p
-concern EndAll = nobody
-concern (Call p) = callOf p
-concern (Named p e) = naming p e
-
--- whom a record concerns, as it reads
-abbrev pub concernOf : Reading → Concern
-concernOf (Meant e) = concern e
-concernOf (Refused r) = nobody
 
 -- up, lost or timeout
 abbrev pub stirring : PartnerEvent → Bool

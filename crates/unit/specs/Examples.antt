@@ -1,5 +1,6 @@
 -- Document 01, "Marked examples": P1 to P10, "X 1 to 2".
--- A line is one record's bytes, and what it gives: 0 or the refusal, the actions in their order, and the whole state after it.
+-- A line is one record's bytes, and what it gives: 0 or the refusal, the actions in their order, the whole state after it, and, of
+-- request Q-6, the place and phase where it carries them.
 -- Defines: Line, examples, got, want.
 use Prim.Native.Nat.{ℕ}
 use mathlib.Core.Bool.{true, false}
@@ -12,8 +13,8 @@ use Rattle.place.specs.declared.phase.Phase.{Phase}
 use Rattle.place.specs.declared.phase.Phase.the-variants.{Connecting, Contacting, Open, Ending}
 use Rattle.place.specs.declared.place.Direction.the-variants.{Outgoing, Incoming}
 use Rattle.place.specs.declared.place.Place.{Place}
-use Rattle.unit.specs.States.{coldStart, noMarks, placeCount}
-use Rattle.unit.specs.Steps.{Outcome, act}
+use Rattle.unit.specs.States.{coldStart, noMarks, placeCount, nowhere}
+use Rattle.unit.specs.Steps.{Outcome, refusedAt, done, act}
 use Rattle.unit.specs.OnRecords.{trace}
 use Rattle.unit.specs.declared.state.Marks.{Marks}
 use Rattle.unit.specs.declared.state.State.{State}
@@ -63,45 +64,54 @@ pub record Line : Type 0 where
   pub bytes : List ℕ
   pub gives : Outcome
 
-infix 4 _gives_sends_leaves_
-abbrev _gives_sends_leaves_ : List ℕ → ℕ → List Action → State → Line
-_gives_sends_leaves_ bytes code actions state =
-    record { bytes = bytes; gives = record { code = code; state = state; actions = actions } }
+-- accepted: the actions sent, and the state after it
+infix 4 _sends_leaves_
+abbrev _sends_leaves_ : List ℕ → List Action → State → Line
+_sends_leaves_ bytes actions state = record { bytes = bytes; gives = done state actions }
+
+-- refused, with place 4 and phase 0; refused, with the place and the phase of the partner
+infix 4 _gives_leaves_
+abbrev _gives_leaves_ : List ℕ → ℕ → State → Line
+_gives_leaves_ bytes code state = record { bytes = bytes; gives = refusedAt code nowhere state }
+
+infix 4 _says_at_phase_leaves_
+abbrev _says_at_phase_leaves_ : List ℕ → ℕ → ℕ → ℕ → State → Line
+_says_at_phase_leaves_ bytes code i k state = record { bytes = bytes; gives = refusedAt code (record { place = i; phase = k }) state }
 
 -- "P1 the five records above, states included."
 p1 : List Line
 p1 =
-    ((5 ∷ 0 ∷ 0 ∷ 0 ∷ 5 ∷ 1 ∷ 1 ∷ []) gives 0 sends (21 to rbcNo 5 ∷ []) leaves idle (out (Connecting 1) (rbcNo 5) ∷ []))
-    ∷ ((8 ∷ 0 ∷ 0 ∷ 0 ∷ 5 ∷ []) gives 0 sends (155 to rbcNo 5 ∷ []) leaves idle (out (Contacting 1) (rbcNo 5) ∷ []))
-    ∷ ((11 ∷ 0 ∷ 0 ∷ 0 ∷ 5 ∷ 32 ∷ 17 ∷ []) gives 0 sends (159 to rbcNo 5 ∷ []) leaves idle (out Open (rbcNo 5) ∷ []))
-    ∷ ((6 ∷ 0 ∷ 0 ∷ 0 ∷ 5 ∷ []) gives 0 sends (156 to rbcNo 5 ∷ []) leaves idle (out (Ending 1) (rbcNo 5) ∷ []))
-    ∷ ((11 ∷ 0 ∷ 0 ∷ 0 ∷ 5 ∷ 39 ∷ 0 ∷ []) gives 0 sends (22 to rbcNo 5 ∷ []) leaves idle [])
+    ((5 ∷ 0 ∷ 0 ∷ 0 ∷ 5 ∷ 1 ∷ 1 ∷ []) sends (21 to rbcNo 5 ∷ []) leaves idle (out (Connecting 1) (rbcNo 5) ∷ []))
+    ∷ ((8 ∷ 0 ∷ 0 ∷ 0 ∷ 5 ∷ []) sends (155 to rbcNo 5 ∷ []) leaves idle (out (Contacting 1) (rbcNo 5) ∷ []))
+    ∷ ((11 ∷ 0 ∷ 0 ∷ 0 ∷ 5 ∷ 32 ∷ 17 ∷ []) sends (159 to rbcNo 5 ∷ []) leaves idle (out Open (rbcNo 5) ∷ []))
+    ∷ ((6 ∷ 0 ∷ 0 ∷ 0 ∷ 5 ∷ []) sends (156 to rbcNo 5 ∷ []) leaves idle (out (Ending 1) (rbcNo 5) ∷ []))
+    ∷ ((11 ∷ 0 ∷ 0 ∷ 0 ∷ 5 ∷ 39 ∷ 0 ∷ []) sends (22 to rbcNo 5 ∷ []) leaves idle [])
     ∷ []
 
 -- "P2 order, cause 1, then three timeouts: 21, 21, 21, 22; free."
 p2 : List Line
 p2 =
-    ((5 ∷ 0 ∷ 0 ∷ 0 ∷ 5 ∷ 1 ∷ 1 ∷ []) gives 0 sends (21 to rbcNo 5 ∷ []) leaves idle (out (Connecting 1) (rbcNo 5) ∷ []))
-    ∷ ((10 ∷ 0 ∷ 0 ∷ 0 ∷ 5 ∷ []) gives 0 sends (21 to rbcNo 5 ∷ []) leaves idle (out (Connecting 2) (rbcNo 5) ∷ []))
-    ∷ ((10 ∷ 0 ∷ 0 ∷ 0 ∷ 5 ∷ []) gives 0 sends (21 to rbcNo 5 ∷ []) leaves idle (out (Connecting 3) (rbcNo 5) ∷ []))
-    ∷ ((10 ∷ 0 ∷ 0 ∷ 0 ∷ 5 ∷ []) gives 0 sends (22 to rbcNo 5 ∷ []) leaves idle [])
+    ((5 ∷ 0 ∷ 0 ∷ 0 ∷ 5 ∷ 1 ∷ 1 ∷ []) sends (21 to rbcNo 5 ∷ []) leaves idle (out (Connecting 1) (rbcNo 5) ∷ []))
+    ∷ ((10 ∷ 0 ∷ 0 ∷ 0 ∷ 5 ∷ []) sends (21 to rbcNo 5 ∷ []) leaves idle (out (Connecting 2) (rbcNo 5) ∷ []))
+    ∷ ((10 ∷ 0 ∷ 0 ∷ 0 ∷ 5 ∷ []) sends (21 to rbcNo 5 ∷ []) leaves idle (out (Connecting 3) (rbcNo 5) ∷ []))
+    ∷ ((10 ∷ 0 ∷ 0 ∷ 0 ∷ 5 ∷ []) sends (22 to rbcNo 5 ∷ []) leaves idle [])
     ∷ []
 
 -- "P3 message 32, version 48, in Contacting: 154, 156, Ending 1."
 p3 : List Line
 p3 =
-    ((5 ∷ 0 ∷ 0 ∷ 0 ∷ 5 ∷ 1 ∷ 1 ∷ []) gives 0 sends (21 to rbcNo 5 ∷ []) leaves idle (out (Connecting 1) (rbcNo 5) ∷ []))
-    ∷ ((8 ∷ 0 ∷ 0 ∷ 0 ∷ 5 ∷ []) gives 0 sends (155 to rbcNo 5 ∷ []) leaves idle (out (Contacting 1) (rbcNo 5) ∷ []))
-    ∷ ((11 ∷ 0 ∷ 0 ∷ 0 ∷ 5 ∷ 32 ∷ 48 ∷ []) gives 0 sends (154 to rbcNo 5 ∷ 156 to rbcNo 5 ∷ []) leaves idle (out (Ending 1) (rbcNo 5) ∷ []))
+    ((5 ∷ 0 ∷ 0 ∷ 0 ∷ 5 ∷ 1 ∷ 1 ∷ []) sends (21 to rbcNo 5 ∷ []) leaves idle (out (Connecting 1) (rbcNo 5) ∷ []))
+    ∷ ((8 ∷ 0 ∷ 0 ∷ 0 ∷ 5 ∷ []) sends (155 to rbcNo 5 ∷ []) leaves idle (out (Contacting 1) (rbcNo 5) ∷ []))
+    ∷ ((11 ∷ 0 ∷ 0 ∷ 0 ∷ 5 ∷ 32 ∷ 48 ∷ []) sends (154 to rbcNo 5 ∷ 156 to rbcNo 5 ∷ []) leaves idle (out (Ending 1) (rbcNo 5) ∷ []))
     ∷ []
 
 -- "P4 version 47 there: 159, Open. Version 128: refusal 3."
 p4 : List Line
 p4 =
-    ((5 ∷ 0 ∷ 0 ∷ 0 ∷ 5 ∷ 1 ∷ 1 ∷ []) gives 0 sends (21 to rbcNo 5 ∷ []) leaves idle (out (Connecting 1) (rbcNo 5) ∷ []))
-    ∷ ((8 ∷ 0 ∷ 0 ∷ 0 ∷ 5 ∷ []) gives 0 sends (155 to rbcNo 5 ∷ []) leaves idle (out (Contacting 1) (rbcNo 5) ∷ []))
-    ∷ ((11 ∷ 0 ∷ 0 ∷ 0 ∷ 5 ∷ 32 ∷ 128 ∷ []) gives 3 sends [] leaves idle (out (Contacting 1) (rbcNo 5) ∷ []))
-    ∷ ((11 ∷ 0 ∷ 0 ∷ 0 ∷ 5 ∷ 32 ∷ 47 ∷ []) gives 0 sends (159 to rbcNo 5 ∷ []) leaves idle (out Open (rbcNo 5) ∷ []))
+    ((5 ∷ 0 ∷ 0 ∷ 0 ∷ 5 ∷ 1 ∷ 1 ∷ []) sends (21 to rbcNo 5 ∷ []) leaves idle (out (Connecting 1) (rbcNo 5) ∷ []))
+    ∷ ((8 ∷ 0 ∷ 0 ∷ 0 ∷ 5 ∷ []) sends (155 to rbcNo 5 ∷ []) leaves idle (out (Contacting 1) (rbcNo 5) ∷ []))
+    ∷ ((11 ∷ 0 ∷ 0 ∷ 0 ∷ 5 ∷ 32 ∷ 128 ∷ []) gives 3 leaves idle (out (Contacting 1) (rbcNo 5) ∷ []))
+    ∷ ((11 ∷ 0 ∷ 0 ∷ 0 ∷ 5 ∷ 32 ∷ 47 ∷ []) sends (159 to rbcNo 5 ∷ []) leaves idle (out Open (rbcNo 5) ∷ []))
     ∷ []
 
 -- the four calls of P5 taken
@@ -111,62 +121,62 @@ called = idle (inc Open (rbcNo 1) ∷ inc Open (rbcNo 2) ∷ inc Open (rbcNo 3) 
 -- "P5 four calls 38 from RBC 1 to 4; RBC 5 gets 8, RBC 1 gets 5."
 p5 : List Line
 p5 =
-    ((11 ∷ 0 ∷ 0 ∷ 0 ∷ 1 ∷ 38 ∷ 0 ∷ []) gives 0 sends (159 to rbcNo 1 ∷ []) leaves idle (inc Open (rbcNo 1) ∷ []))
-    ∷ ((11 ∷ 0 ∷ 0 ∷ 0 ∷ 2 ∷ 38 ∷ 0 ∷ []) gives 0 sends (159 to rbcNo 2 ∷ []) leaves idle (inc Open (rbcNo 1) ∷ inc Open (rbcNo 2) ∷ []))
-    ∷ ((11 ∷ 0 ∷ 0 ∷ 0 ∷ 3 ∷ 38 ∷ 0 ∷ []) gives 0 sends (159 to rbcNo 3 ∷ []) leaves idle (inc Open (rbcNo 1) ∷ inc Open (rbcNo 2) ∷ inc Open (rbcNo 3) ∷ []))
-    ∷ ((11 ∷ 0 ∷ 0 ∷ 0 ∷ 4 ∷ 38 ∷ 0 ∷ []) gives 0 sends (159 to rbcNo 4 ∷ []) leaves called)
-    ∷ ((11 ∷ 0 ∷ 0 ∷ 0 ∷ 5 ∷ 38 ∷ 0 ∷ []) gives 8 sends [] leaves called)
-    ∷ ((11 ∷ 0 ∷ 0 ∷ 0 ∷ 1 ∷ 38 ∷ 0 ∷ []) gives 5 sends [] leaves called)
+    ((11 ∷ 0 ∷ 0 ∷ 0 ∷ 1 ∷ 38 ∷ 0 ∷ []) sends (159 to rbcNo 1 ∷ []) leaves idle (inc Open (rbcNo 1) ∷ []))
+    ∷ ((11 ∷ 0 ∷ 0 ∷ 0 ∷ 2 ∷ 38 ∷ 0 ∷ []) sends (159 to rbcNo 2 ∷ []) leaves idle (inc Open (rbcNo 1) ∷ inc Open (rbcNo 2) ∷ []))
+    ∷ ((11 ∷ 0 ∷ 0 ∷ 0 ∷ 3 ∷ 38 ∷ 0 ∷ []) sends (159 to rbcNo 3 ∷ []) leaves idle (inc Open (rbcNo 1) ∷ inc Open (rbcNo 2) ∷ inc Open (rbcNo 3) ∷ []))
+    ∷ ((11 ∷ 0 ∷ 0 ∷ 0 ∷ 4 ∷ 38 ∷ 0 ∷ []) sends (159 to rbcNo 4 ∷ []) leaves called)
+    ∷ ((11 ∷ 0 ∷ 0 ∷ 0 ∷ 5 ∷ 38 ∷ 0 ∷ []) gives 8 leaves called)
+    ∷ ((11 ∷ 0 ∷ 0 ∷ 0 ∷ 1 ∷ 38 ∷ 0 ∷ []) says 5 at 0 phase 3 leaves called)
     ∷ []
 
 -- "P6 then 38 from RIU 1: 9."
 p6 : List Line
-p6 = p5 ++ (((11 ∷ 1 ∷ 0 ∷ 0 ∷ 1 ∷ 38 ∷ 0 ∷ []) gives 9 sends [] leaves called) ∷ [])
+p6 = p5 ++ (((11 ∷ 1 ∷ 0 ∷ 0 ∷ 1 ∷ 38 ∷ 0 ∷ []) gives 9 leaves called) ∷ [])
 
 -- "P7 RBC 1 Open in place 0, RIU 2 Open in place 1; order RBC 3, accepting 0, cause 1: 156:0/1, then 21:0/3."
 p7 : List Line
 p7 =
-    ((11 ∷ 0 ∷ 0 ∷ 0 ∷ 1 ∷ 38 ∷ 0 ∷ []) gives 0 sends (159 to rbcNo 1 ∷ []) leaves idle (inc Open (rbcNo 1) ∷ []))
-    ∷ ((5 ∷ 1 ∷ 0 ∷ 0 ∷ 2 ∷ 1 ∷ 1 ∷ []) gives 0 sends (21 to riuNo 2 ∷ []) leaves idle (inc Open (rbcNo 1) ∷ out (Connecting 1) (riuNo 2) ∷ []))
-    ∷ ((8 ∷ 1 ∷ 0 ∷ 0 ∷ 2 ∷ []) gives 0 sends (155 to riuNo 2 ∷ []) leaves idle (inc Open (rbcNo 1) ∷ out (Contacting 1) (riuNo 2) ∷ []))
-    ∷ ((11 ∷ 1 ∷ 0 ∷ 0 ∷ 2 ∷ 32 ∷ 17 ∷ []) gives 0 sends (159 to riuNo 2 ∷ []) leaves idle (inc Open (rbcNo 1) ∷ out Open (riuNo 2) ∷ []))
-    ∷ ((5 ∷ 0 ∷ 0 ∷ 0 ∷ 3 ∷ 0 ∷ 1 ∷ []) gives 0 sends (156 to rbcNo 1 ∷ 21 to rbcNo 3 ∷ []) leaves idle (inc (Ending 1) (rbcNo 1) ∷ out Open (riuNo 2) ∷ out (Connecting 1) (rbcNo 3) ∷ []))
+    ((11 ∷ 0 ∷ 0 ∷ 0 ∷ 1 ∷ 38 ∷ 0 ∷ []) sends (159 to rbcNo 1 ∷ []) leaves idle (inc Open (rbcNo 1) ∷ []))
+    ∷ ((5 ∷ 1 ∷ 0 ∷ 0 ∷ 2 ∷ 1 ∷ 1 ∷ []) sends (21 to riuNo 2 ∷ []) leaves idle (inc Open (rbcNo 1) ∷ out (Connecting 1) (riuNo 2) ∷ []))
+    ∷ ((8 ∷ 1 ∷ 0 ∷ 0 ∷ 2 ∷ []) sends (155 to riuNo 2 ∷ []) leaves idle (inc Open (rbcNo 1) ∷ out (Contacting 1) (riuNo 2) ∷ []))
+    ∷ ((11 ∷ 1 ∷ 0 ∷ 0 ∷ 2 ∷ 32 ∷ 17 ∷ []) sends (159 to riuNo 2 ∷ []) leaves idle (inc Open (rbcNo 1) ∷ out Open (riuNo 2) ∷ []))
+    ∷ ((5 ∷ 0 ∷ 0 ∷ 0 ∷ 3 ∷ 0 ∷ 1 ∷ []) sends (156 to rbcNo 1 ∷ 21 to rbcNo 3 ∷ []) leaves idle (inc (Ending 1) (rbcNo 1) ∷ out Open (riuNo 2) ∷ out (Connecting 1) (rbcNo 3) ∷ []))
     ∷ []
 
 -- "P8 mission 1, cause 0: level 1 gives 4, level 2 gives 21."
 p8 : List Line
 p8 =
-    ((2 ∷ 1 ∷ []) gives 0 sends [] leaves box 0 1 noMarks [])
-    ∷ ((1 ∷ 1 ∷ 0 ∷ []) gives 0 sends [] leaves box 1 1 noMarks [])
-    ∷ ((5 ∷ 0 ∷ 0 ∷ 0 ∷ 5 ∷ 1 ∷ 0 ∷ []) gives 4 sends [] leaves box 1 1 noMarks [])
-    ∷ ((1 ∷ 2 ∷ 0 ∷ []) gives 0 sends [] leaves box 2 1 noMarks [])
-    ∷ ((5 ∷ 0 ∷ 0 ∷ 0 ∷ 5 ∷ 1 ∷ 0 ∷ []) gives 0 sends (21 to rbcNo 5 ∷ []) leaves box 2 1 noMarks (out (Connecting 1) (rbcNo 5) ∷ []))
+    ((2 ∷ 1 ∷ []) sends [] leaves box 0 1 noMarks [])
+    ∷ ((1 ∷ 1 ∷ 0 ∷ []) sends [] leaves box 1 1 noMarks [])
+    ∷ ((5 ∷ 0 ∷ 0 ∷ 0 ∷ 5 ∷ 1 ∷ 0 ∷ []) gives 4 leaves box 1 1 noMarks [])
+    ∷ ((1 ∷ 2 ∷ 0 ∷ []) sends [] leaves box 2 1 noMarks [])
+    ∷ ((5 ∷ 0 ∷ 0 ∷ 0 ∷ 5 ∷ 1 ∷ 0 ∷ []) sends (21 to rbcNo 5 ∷ []) leaves box 2 1 noMarks (out (Connecting 1) (rbcNo 5) ∷ []))
     ∷ []
 
 -- "P9 cold start, hole left: 7. Entered, left, order cause 4: 21; a second order cause 4 to another partner: 4."
 p9 : List Line
 p9 =
-    ((4 ∷ 0 ∷ []) gives 7 sends [] leaves idle [])
-    ∷ ((4 ∷ 1 ∷ []) gives 0 sends [] leaves box 0 0 inHole [])
-    ∷ ((4 ∷ 0 ∷ []) gives 0 sends [] leaves box 0 0 holeEnd [])
-    ∷ ((5 ∷ 0 ∷ 0 ∷ 0 ∷ 5 ∷ 1 ∷ 4 ∷ []) gives 0 sends (21 to rbcNo 5 ∷ []) leaves idle (out (Connecting 1) (rbcNo 5) ∷ []))
-    ∷ ((5 ∷ 0 ∷ 0 ∷ 0 ∷ 6 ∷ 1 ∷ 4 ∷ []) gives 4 sends [] leaves idle (out (Connecting 1) (rbcNo 5) ∷ []))
+    ((4 ∷ 0 ∷ []) gives 7 leaves idle [])
+    ∷ ((4 ∷ 1 ∷ []) sends [] leaves box 0 0 inHole [])
+    ∷ ((4 ∷ 0 ∷ []) sends [] leaves box 0 0 holeEnd [])
+    ∷ ((5 ∷ 0 ∷ 0 ∷ 0 ∷ 5 ∷ 1 ∷ 4 ∷ []) sends (21 to rbcNo 5 ∷ []) leaves idle (out (Connecting 1) (rbcNo 5) ∷ []))
+    ∷ ((5 ∷ 0 ∷ 0 ∷ 0 ∷ 6 ∷ 1 ∷ 4 ∷ []) gives 4 leaves idle (out (Connecting 1) (rbcNo 5) ∷ []))
     ∷ []
 
 -- "P10 order cause 1, two timeouts, up, two timeouts, 32 with version 17, drop, two timeouts, 39: eleven actions."
 p10 : List Line
 p10 =
-    ((5 ∷ 0 ∷ 0 ∷ 0 ∷ 5 ∷ 1 ∷ 1 ∷ []) gives 0 sends (21 to rbcNo 5 ∷ []) leaves idle (out (Connecting 1) (rbcNo 5) ∷ []))
-    ∷ ((10 ∷ 0 ∷ 0 ∷ 0 ∷ 5 ∷ []) gives 0 sends (21 to rbcNo 5 ∷ []) leaves idle (out (Connecting 2) (rbcNo 5) ∷ []))
-    ∷ ((10 ∷ 0 ∷ 0 ∷ 0 ∷ 5 ∷ []) gives 0 sends (21 to rbcNo 5 ∷ []) leaves idle (out (Connecting 3) (rbcNo 5) ∷ []))
-    ∷ ((8 ∷ 0 ∷ 0 ∷ 0 ∷ 5 ∷ []) gives 0 sends (155 to rbcNo 5 ∷ []) leaves idle (out (Contacting 1) (rbcNo 5) ∷ []))
-    ∷ ((10 ∷ 0 ∷ 0 ∷ 0 ∷ 5 ∷ []) gives 0 sends (155 to rbcNo 5 ∷ []) leaves idle (out (Contacting 2) (rbcNo 5) ∷ []))
-    ∷ ((10 ∷ 0 ∷ 0 ∷ 0 ∷ 5 ∷ []) gives 0 sends (155 to rbcNo 5 ∷ []) leaves idle (out (Contacting 3) (rbcNo 5) ∷ []))
-    ∷ ((11 ∷ 0 ∷ 0 ∷ 0 ∷ 5 ∷ 32 ∷ 17 ∷ []) gives 0 sends (159 to rbcNo 5 ∷ []) leaves idle (out Open (rbcNo 5) ∷ []))
-    ∷ ((6 ∷ 0 ∷ 0 ∷ 0 ∷ 5 ∷ []) gives 0 sends (156 to rbcNo 5 ∷ []) leaves idle (out (Ending 1) (rbcNo 5) ∷ []))
-    ∷ ((10 ∷ 0 ∷ 0 ∷ 0 ∷ 5 ∷ []) gives 0 sends (156 to rbcNo 5 ∷ []) leaves idle (out (Ending 2) (rbcNo 5) ∷ []))
-    ∷ ((10 ∷ 0 ∷ 0 ∷ 0 ∷ 5 ∷ []) gives 0 sends (156 to rbcNo 5 ∷ []) leaves idle (out (Ending 3) (rbcNo 5) ∷ []))
-    ∷ ((11 ∷ 0 ∷ 0 ∷ 0 ∷ 5 ∷ 39 ∷ 0 ∷ []) gives 0 sends (22 to rbcNo 5 ∷ []) leaves idle [])
+    ((5 ∷ 0 ∷ 0 ∷ 0 ∷ 5 ∷ 1 ∷ 1 ∷ []) sends (21 to rbcNo 5 ∷ []) leaves idle (out (Connecting 1) (rbcNo 5) ∷ []))
+    ∷ ((10 ∷ 0 ∷ 0 ∷ 0 ∷ 5 ∷ []) sends (21 to rbcNo 5 ∷ []) leaves idle (out (Connecting 2) (rbcNo 5) ∷ []))
+    ∷ ((10 ∷ 0 ∷ 0 ∷ 0 ∷ 5 ∷ []) sends (21 to rbcNo 5 ∷ []) leaves idle (out (Connecting 3) (rbcNo 5) ∷ []))
+    ∷ ((8 ∷ 0 ∷ 0 ∷ 0 ∷ 5 ∷ []) sends (155 to rbcNo 5 ∷ []) leaves idle (out (Contacting 1) (rbcNo 5) ∷ []))
+    ∷ ((10 ∷ 0 ∷ 0 ∷ 0 ∷ 5 ∷ []) sends (155 to rbcNo 5 ∷ []) leaves idle (out (Contacting 2) (rbcNo 5) ∷ []))
+    ∷ ((10 ∷ 0 ∷ 0 ∷ 0 ∷ 5 ∷ []) sends (155 to rbcNo 5 ∷ []) leaves idle (out (Contacting 3) (rbcNo 5) ∷ []))
+    ∷ ((11 ∷ 0 ∷ 0 ∷ 0 ∷ 5 ∷ 32 ∷ 17 ∷ []) sends (159 to rbcNo 5 ∷ []) leaves idle (out Open (rbcNo 5) ∷ []))
+    ∷ ((6 ∷ 0 ∷ 0 ∷ 0 ∷ 5 ∷ []) sends (156 to rbcNo 5 ∷ []) leaves idle (out (Ending 1) (rbcNo 5) ∷ []))
+    ∷ ((10 ∷ 0 ∷ 0 ∷ 0 ∷ 5 ∷ []) sends (156 to rbcNo 5 ∷ []) leaves idle (out (Ending 2) (rbcNo 5) ∷ []))
+    ∷ ((10 ∷ 0 ∷ 0 ∷ 0 ∷ 5 ∷ []) sends (156 to rbcNo 5 ∷ []) leaves idle (out (Ending 3) (rbcNo 5) ∷ []))
+    ∷ ((11 ∷ 0 ∷ 0 ∷ 0 ∷ 5 ∷ 39 ∷ 0 ∷ []) sends (22 to rbcNo 5 ∷ []) leaves idle [])
     ∷ []
 
 -- all of them

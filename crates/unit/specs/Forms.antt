@@ -36,8 +36,8 @@ pushAll a p (number ∷ ks) = pushAll (pushed a p number) p ks
 
 -- an outcome as the code holds it
 unfoldable pub packed : Outcome → Answer
-packed o = record { code = o .code; state = o .state; actions = listed (o .actions) }
+packed o = record { code = o .code; state = o .state; actions = listed (o .actions); standing = o .standing }
 
--- what a step on bytes answers beside the buffer: the number, the state, and how many actions it wrote
+-- what a step on bytes answers beside the buffer: how many actions it wrote, and the rest
 unfoldable pub stepped : Outcome → Stepped
-stepped o = record { code = o .code; state = o .state; count = length (o .actions) }
+stepped o = record { code = o .code; state = o .state; count = length (o .actions); standing = o .standing }

@@ -1,3 +1,4 @@
+pub mod Standings
 pub mod States
 pub mod Steps
 pub mod Concerns

@@ -1,15 +1,15 @@
 -- Document 01, "What the box remembers": soundness of a state, and the cold start.
--- Defines: placeCount, some, first, seek, highestX, limitsOk, trainOk, marksOk, absentFrom, placesOk, sound, noMarks, cold, noLimits,
+-- Defines: placeCount, some, first, seek, nowhere, standing, highestX, limitsOk, trainOk, marksOk, absentFrom, placesOk, sound, noMarks, cold, noLimits,
 -- coldStart.
 use Prim.Native.Nat.{ℕ, suc}
 use mathlib.Core.Bool.{Bool, true, false, cond, _&&_, not, _||_}
 use mathlib.Core.List.{List, [], _∷_}
 use lib.Dec.{eqb, leb}
-use lib.ListN.{length, replicate}
+use lib.ListN.{length, getD, replicate}
 use Rattle.record.specs.Records.{highestLevel, missionEnded, missionUnderWay}
 use Rattle.wire.specs.Refusals.{accepted, badLimits}
 use Rattle.record.specs.declared.partner.Partner.{Partner}
-use Rattle.place.specs.Places.{vacant, isFree, holds, placeOk, onHolding}
+use Rattle.place.specs.Places.{phaseNumber, vacant, isFree, heldPhase, holds, placeOk, onHolding}
 use Rattle.place.specs.declared.place.Holding.{Holding}
 use Rattle.place.specs.declared.place.Place.{Place}
 use Rattle.place.specs.declared.limits.Limits.{Limits}
@@ -18,6 +18,7 @@ use Rattle.unit.specs.declared.state.Marks.{Marks}
 use Rattle.unit.specs.declared.state.State.{State}
 use Rattle.unit.specs.declared.search.Found.{Found}
 use Rattle.unit.specs.declared.search.Found.the-variants.{At, Vacant, Full}
+use Rattle.unit.specs.declared.search.Standing.{Standing}
 use Rattle.unit.specs.declared.start.Started.{Started}
 
 -- "Four places, 0 to 3"
@@ -34,11 +35,21 @@ unfoldable pub first : (Place → Bool) → List Place → ℕ
 first test [] = 0
 first test (p ∷ ps) = cond (test p) 0 (suc (first test ps))
 
--- where a partner has its place, else the lowest free place, else none
+-- Q-6: "Finding a partner shall answer its place and its phase, or the lowest free place, or that there is none"
 unfoldable pub seek : Partner → List Place → Found
 seek p ps =
-    cond (some (holds p) ps) (At (first (holds p) ps))
+    cond (some (holds p) ps) (At (first (holds p) ps) (heldPhase (getD ps (first (holds p) ps) vacant)))
     (cond (some isFree ps) (Vacant (first isFree ps)) Full)
+
+-- "place 4 and phase 0"
+abbrev pub nowhere : Standing
+nowhere = record { place = placeCount; phase = 0 }
+
+-- the numbers of what is found: the place and the phase of the partner, where it has a place
+abbrev pub standing : Found → Standing
+standing (At i ph) = record { place = i; phase = phaseNumber ph }
+standing (Vacant i) = nowhere
+standing Full = nowhere
 
 -- the largest X, 7
 abbrev pub highestX : ℕ

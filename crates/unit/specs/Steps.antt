@@ -1,7 +1,7 @@
 -- Document 01, "Rules of one step": one step on values, for every kind of event.
--- Defines: Outcome, refused, done, withTrain, withMarks, withPlaces, act, markManual, withLevel, markMode, markHole, holeTaken,
--- atHole, actionsIn, closed, closingActions, closePlaces, withMission, atMission, radioLevel, inForce, spend, displaced, takenIn, orderedAt,
--- ordered, calledAt, called, turnedAt, turned, namedAt, step.
+-- Defines: Outcome, refusedAt, refused, done, withTrain, withMarks, withPlaces, act, markManual, withLevel, markMode, markHole, holeTaken,
+-- atHole, actionsIn, closed, closingActions, closePlaces, withMission, atMission, radioLevel, inForce, spend, displaced, takenIn, admitted,
+-- orderedAt, ordered, calledAt, called, turnedAt, turned, namedAt, step.
 use Prim.Native.Nat.{ℕ}
 use mathlib.Core.Bool.{Bool, true, false, cond, _&&_, _||_, not}
 use mathlib.Core.List.{List, [], _∷_, _++_, map}
@@ -17,7 +17,8 @@ use Rattle.record.specs.declared.event.PartnerEvent.{PartnerEvent}
 use Rattle.record.specs.declared.event.Event.{Event}
 use Rattle.record.specs.declared.event.Event.the-variants.{Level, Mission, Mode, Hole, Order, EndAll, Call, Named}
 use Rattle.place.specs.Places.{vacant, seat, onHolding}
-use Rattle.place.specs.Table.{request, established, firstTry, takes, numbers, placeAfter, placeTurn, closedBy}
+use Rattle.place.specs.Table.{request, established, firstTry, turn, takes, numbers, placeAfter, closedBy}
+use Rattle.place.specs.declared.phase.Phase.{Phase}
 use Rattle.place.specs.declared.phase.Phase.the-variants.{Connecting, Open}
 use Rattle.place.specs.declared.place.Direction.the-variants.{Outgoing, Incoming}
 use Rattle.place.specs.declared.place.Holding.{Holding}
@@ -25,27 +26,33 @@ use Rattle.place.specs.declared.place.Place.{Place}
 use Rattle.place.specs.declared.turn.Turn.{Turn}
 use Rattle.place.specs.declared.turn.Closing.{Closing}
 use Rattle.place.specs.declared.turn.Closing.the-variants.{Every, Sessions, Nothing}
-use Rattle.unit.specs.States.{seek}
+use Rattle.unit.specs.States.{seek, nowhere, standing}
 use Rattle.unit.specs.declared.state.Train.{Train}
 use Rattle.unit.specs.declared.state.Marks.{Marks}
 use Rattle.unit.specs.declared.state.State.{State}
 use Rattle.unit.specs.declared.search.Found.{Found}
 use Rattle.unit.specs.declared.search.Found.the-variants.{At, Vacant, Full}
+use Rattle.unit.specs.declared.search.Standing.{Standing}
 use Rattle.unit.specs.declared.answer.Action.{Action}
 
--- what a step gives: 0 or the refusal, the next state, and the actions in their order
+-- what a step gives: 0 or the refusal, the next state, the actions in their order, and the place and phase that it carries
 pub record Outcome : Type 0 where
   pub code : ℕ
   pub state : State
   pub actions : List Action
+  pub standing : Standing
 
--- "A refused step .. returns its number, the state as given, counts 0"
+-- "A refused step .. returns its number, the state as given, counts 0"; Q-6: "Refusals 5 and 7 then carry place and phase"
+abbrev pub refusedAt : ℕ → Standing → State → Outcome
+refusedAt r w s = record { code = r; state = s; actions = []; standing = w }
+
+-- "7 for a hole, and every other answer, carries place 4 and phase 0": another refusal
 abbrev pub refused : ℕ → State → Outcome
-refused r s = record { code = r; state = s; actions = [] }
+refused r s = refusedAt r nowhere s
 
 -- an accepted step
 abbrev pub done : State → List Action → Outcome
-done s acts = record { code = refusal.accepted; state = s; actions = acts }
+done s acts = record { code = refusal.accepted; state = s; actions = acts; standing = nowhere }
 
 -- the state with one part of it changed
 abbrev pub withTrain : State → Train → State
@@ -140,29 +147,30 @@ takenIn o i p =
     done (withPlaces (o .state) (set (o .state .places) i (seat Outgoing (Connecting firstTry) p)))
     (o .actions ++ (act p request ∷ []))
 
+-- "5, 8" of an order and of 38: refused, or taken in at the lowest free place
+abbrev pub admitted : State → (ℕ → Outcome) → Found → Outcome
+admitted s taken (At i ph) = refusedAt refusal.hasPlace (standing (At i ph)) s
+admitted s taken (Vacant i) = taken i
+admitted s taken Full = refusedAt refusal.allTaken (standing Full) s
+
 -- "A place freed by this same order is not counted as free for it": the place was found before the closings
-abbrev pub orderedAt : State → Partner → Bool → Cause → Found → Outcome
-orderedAt s p accepting cause (At i) = refused refusal.hasPlace s
-orderedAt s p accepting cause (Vacant i) =
+abbrev pub orderedAt : State → Partner → Bool → Cause → ℕ → Outcome
+orderedAt s p accepting cause i =
     takenIn (closePlaces (displaced p accepting) (withMarks s (spend cause (s .marks)))) i p
-orderedAt s p accepting cause Full = refused refusal.allTaken s
 
 -- "for an order 4, 5, 8"
 abbrev pub ordered : State → Partner → Bool → Cause → Outcome
 ordered s p accepting cause =
-    cond (inForce cause (s .train) (s .marks)) (orderedAt s p accepting cause (seek p (s .places)))
+    cond (inForce cause (s .train) (s .marks)) (admitted s (orderedAt s p accepting cause) (seek p (s .places)))
     (refused refusal.notInForce s)
 
 -- "Message 38 takes the lowest free place as Open, incoming, with 159"
-abbrev pub calledAt : State → Partner → Found → Outcome
-calledAt s p (At i) = refused refusal.hasPlace s
-calledAt s p (Vacant i) =
-    done (withPlaces s (set (s .places) i (seat Incoming Open p))) (act p established ∷ [])
-calledAt s p Full = refused refusal.allTaken s
+abbrev pub calledAt : State → Partner → ℕ → Outcome
+calledAt s p i = done (withPlaces s (set (s .places) i (seat Incoming Open p))) (act p established ∷ [])
 
 -- "for 38 9, 5, 8"
 abbrev pub called : State → Partner → Outcome
-called s p = cond (isRbc p) (calledAt s p (seek p (s .places))) (refused refusal.callFromRiu s)
+called s p = cond (isRbc p) (admitted s (calledAt s p) (seek p (s .places))) (refused refusal.callFromRiu s)
 
 -- a turn of the place with this number, for the partner that it holds
 abbrev pub turnedAt : State → ℕ → Partner → Turn → Outcome
@@ -170,14 +178,14 @@ turnedAt s i p t =
     done (withPlaces s (set (s .places) i (placeAfter (getD (s .places) i vacant) t))) (map (act p) (numbers t))
 
 -- "\"no\" is refusal 7"
-abbrev pub turned : State → ℕ → Partner → Turn → Outcome
-turned s i p t = cond (takes t) (turnedAt s i p t) (refused refusal.notTaken s)
+abbrev pub turned : State → ℕ → Phase → Partner → Turn → Outcome
+turned s i ph p t = cond (takes t) (turnedAt s i p t) (refusedAt refusal.notTaken (standing (At i ph)) s)
 
 -- "for other partner events 6, 7"
 abbrev pub namedAt : ℕ → State → Partner → PartnerEvent → Found → Outcome
-namedAt n s p e (At i) = turned s i p (placeTurn n (s .limits) (getD (s .places) i vacant) e)
-namedAt n s p e (Vacant i) = refused refusal.hasNone s
-namedAt n s p e Full = refused refusal.hasNone s
+namedAt n s p e (At i ph) = turned s i ph p (turn n (s .limits) ph e)
+namedAt n s p e (Vacant i) = refusedAt refusal.hasNone (standing (Vacant i)) s
+namedAt n s p e Full = refusedAt refusal.hasNone (standing Full) s
 
 -- one step, n being the limit of tries
 unfoldable pub step : ℕ → State → Event → Outcome

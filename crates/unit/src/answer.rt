@@ -1,13 +1,15 @@
 // Answers of the box, and the actions of one step.
 ghost use mathlib.Core.Path.{_≡_};
-ghost use mathlib.Core.List.{[]};
+ghost use mathlib.Core.List.{List, []};
 ghost use Rattle.place.specs.Table.{numbers};
-ghost use Rattle.unit.specs.Steps.{refused};
+ghost use Rattle.unit.specs.Steps.{refusedAt, refused, done};
 ghost use Rattle.unit.specs.Forms.{listed, pushed, pushAll, packed};
+use crate::search::Standing;
 use crate::state::State;
 use place::action::RELEASE;
 use place::turn::Turn;
 use record::partner::Partner;
+use wire::refusal::ACCEPTED;
 
 // The most actions of one step.
 pub const MOST_ACTIONS: usize = 4;
@@ -24,18 +26,20 @@ pub struct Actions {
     pub count: usize,
 }
 
-// What a step answers: 0 or the number of the refusal, the next state, and the actions.
+// What a step answers: 0 or the number of the refusal, the next state, the actions, and where the partner stands if that is said.
 pub struct Answer {
     pub code: u8,
     pub state: State,
     pub actions: Actions,
+    pub standing: Standing,
 }
 
-// What a step on bytes answers: 0 or the number of the refusal, the next state, and how many actions were written.
+// What a step on bytes answers: as a step, with how many actions were written in place of the actions.
 pub struct Stepped {
     pub code: u8,
     pub state: State,
     pub count: usize,
+    pub standing: Standing,
 }
 
 impl Actions {
@@ -91,14 +95,34 @@ impl Actions {
 }
 
 impl Answer {
-    // A refusal: the state as given, no action.
-    pub fn refused(code: u8, state: State) -> Answer
-        ensures { λ r. ⌜ r ≡ packed (refused code state) ⌝ }
+    // A refusal that says where the partner stands: the state as given, no action.
+    pub(crate) fn refused_at(code: u8, standing: Standing, state: State) -> Answer
+        ensures { λ r. ⌜ r ≡ packed (refusedAt code standing state) ⌝ }
     {
         Answer {
             code,
             state,
             actions: Actions::none(),
+            standing,
+        }
+    }
+
+    // A refusal: the state as given, no action.
+    pub fn refused(code: u8, state: State) -> Answer
+        ensures { λ r. ⌜ r ≡ packed (refused code state) ⌝ }
+    {
+        Answer::refused_at(code, Standing::nowhere(), state)
+    }
+
+    // An accepted step.
+    pub(crate) fn done(state: State, actions: Actions) -> Answer
+        ensures { λ r. ⌜ ((acts : List Action) → actions ≡ listed acts → r ≡ packed (done state acts)) ⌝ }
+    {
+        Answer {
+            code: ACCEPTED,
+            state,
+            actions,
+            standing: Standing::nowhere(),
         }
     }
 }

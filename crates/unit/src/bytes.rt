@@ -1,13 +1,14 @@
 // One step from bytes to bytes: an event record in, the actions out.
 ghost use mathlib.Core.Path.{_≡_};
-ghost use Prim.Native.Nat.{_+_, _≤_};
+ghost use Prim.Native.Nat.{_+_, _*_, _≤_};
 ghost use lib.ListN.{length, take};
 ghost use lib.Seq.{sets};
 ghost use Rattle.place.specs.Places.{tryLimit};
-ghost use Rattle.unit.specs.OnRecords.{actionSize, actionRoom, bytesOf, written, onRecord};
-ghost use Rattle.unit.specs.Forms.{mostActions, stepped};
+ghost use Rattle.unit.specs.OnRecords.{actionSize, bytesOf, written, onBytes, onRecord};
+ghost use Rattle.unit.specs.Forms.{mostActions, packed, stepped};
 use crate::answer::Action;
 use crate::answer::Actions;
+use crate::answer::Answer;
 use crate::answer::Stepped;
 use crate::state::State;
 use record::event::Reading;
@@ -35,7 +36,7 @@ fn put(s: &mut [u8], at: usize, action: Action)
 
 // Writes the actions one after the other; later bytes stay.
 fn put_all(s: &mut [u8], actions: Actions)
-    requires { ⌜ (actions .count ≤ mostActions) × (actionRoom ≤ length (now s)) ⌝ }
+    requires { ⌜ (actions .count ≤ mostActions) × (actionSize * actions .count ≤ length (now s)) ⌝ }
     ensures { λ r. ⌜ now (s .exit) ≡ written (take (actions .count) (actions .items)) (now (s .entry)) ⌝ }
 {
     let count = actions.count;
@@ -48,6 +49,31 @@ fn put_all(s: &mut [u8], actions: Actions)
 }
 
 impl State {
+    // One step on the bytes of an event record: refusals 11, 1, 2, 1, 3 and then those of the event, the first that applies.
+    fn on_bytes(self, bytes: &[u8]) -> Answer
+        ensures { λ r. ⌜ r ≡ packed (onBytes tryLimit self (now (bytes .entry))) ⌝ }
+    {
+        if self.is_sound() {
+            match read(bytes) {
+                Reading::Meant(event) => self.step(event),
+                Reading::Refused(code) => Answer::refused(code, self),
+            }
+        } else {
+            Answer::refused(NOT_SOUND, self)
+        }
+    }
+
+    // What it answers to a record where its action buffer has this room.
+    fn answer(self, bytes: &[u8], room: usize) -> Answer
+        ensures { λ r. ⌜ r ≡ packed (onRecord tryLimit self (now (bytes .entry)) room) ⌝ }
+    {
+        if room < ACTION_ROOM {
+            Answer::refused(NO_ROOM, self)
+        } else {
+            self.on_bytes(bytes)
+        }
+    }
+
     // One step on an event record: refusals 10, 11, 1, 2, 1, 3 and then those of the event, the first that applies.
     // An accepted step writes its actions to the front of the buffer and no other byte; a refused one writes nothing.
     pub fn on_record(self, bytes: &[u8], actions: &mut [u8]) -> Stepped
@@ -56,38 +82,16 @@ impl State {
             × (now (actions .exit)
             ≡ written (onRecord tryLimit self (now (bytes .entry)) (length (now (actions .entry))) .actions) (now (actions .entry))) ⌝ }
     {
-        if actions.len() < ACTION_ROOM {
-            return Stepped {
-                code: NO_ROOM,
-                state: self,
-                count: 0,
-            };
-        }
-        if self.is_sound() {
-            match read(bytes) {
-                Reading::Meant(event) => {
-                    let answer = self.step(event);
-                    let sent = answer.actions;
-                    put_all(actions, sent);
-                    let state = answer.state;
-                    Stepped {
-                        code: answer.code,
-                        state,
-                        count: sent.count,
-                    }
-                }
-                Reading::Refused(code) => Stepped {
-                    code,
-                    state: self,
-                    count: 0,
-                },
-            }
-        } else {
-            Stepped {
-                code: NOT_SOUND,
-                state: self,
-                count: 0,
-            }
+        let answer = self.answer(bytes, actions.len());
+        let sent = answer.actions;
+        put_all(actions, sent);
+        let state = answer.state;
+        let standing = answer.standing;
+        Stepped {
+            code: answer.code,
+            state,
+            count: sent.count,
+            standing,
         }
     }
 }

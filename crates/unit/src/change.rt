@@ -3,17 +3,20 @@ ghost use mathlib.Core.Path.{_≡_};
 ghost use Prim.Native.Nat.{_<_};
 ghost use mathlib.Core.Bool.{true, false};
 ghost use mathlib.Core.List.{[], map};
-ghost use lib.ListN.{getD, set};
-ghost use Rattle.place.specs.Places.{tryLimit, vacant};
-ghost use Rattle.place.specs.Table.{numbers, placeTurn};
-ghost use Rattle.unit.specs.States.{placeCount};
-ghost use Rattle.unit.specs.Steps.{refused, done, act, withTrain, withMarks, withPlaces, closePlaces, takenIn, turned, step};
+ghost use lib.ListN.{set};
+ghost use Rattle.place.specs.Places.{tryLimit};
+ghost use Rattle.place.specs.Table.{numbers, turn};
+ghost use Rattle.wire.specs.Refusals.{accepted};
+ghost use Rattle.unit.specs.States.{placeCount, standing};
+ghost use Rattle.unit.specs.declared.search.Found.the-variants.{At};
+ghost use Rattle.unit.specs.Steps.{refusedAt, refused, done, act, withTrain, withMarks, withPlaces, closePlaces, takenIn, turned, step};
 ghost use Rattle.place.specs.declared.turn.Closing.the-variants.{Every};
 ghost use Rattle.unit.specs.Changes.{noted, carried};
 use crate::order::displaced;
 use crate::order::in_force;
 use crate::order::spend;
 use crate::search::Found;
+use crate::search::Standing;
 use crate::state::MISSION_ENDED;
 use crate::state::Marks;
 use crate::state::PLACES;
@@ -41,7 +44,8 @@ use wire::refusal::NOT_IN_FORCE;
 use wire::refusal::NOT_TAKEN;
 
 // A step before it is carried out: 0 or the number of the refusal; the train and the marks after it; which places are closed;
-// then the place that is set, if its number is one of the four, and the partner and turn whose actions are sent last.
+// then the place that is set, if its number is one of the four, and the partner and turn whose actions are sent last; and, for a
+// refusal, the place and phase that it says.
 pub(crate) struct Change {
     pub code: u8,
     pub train: Train,
@@ -51,12 +55,13 @@ pub(crate) struct Change {
     pub place: Place,
     pub partner: Partner,
     pub turn: Turn,
+    pub standing: Standing,
 }
 
 impl Change {
     // A change that sets no place.
-    fn noted(code: u8, train: Train, marks: Marks, which: Closing) -> Change
-        ensures { λ r. ⌜ r ≡ noted code train marks which ⌝ }
+    fn noted(code: u8, train: Train, marks: Marks, which: Closing, standing: Standing) -> Change
+        ensures { λ r. ⌜ r ≡ noted code train marks which standing ⌝ }
     {
         Change {
             code,
@@ -72,25 +77,53 @@ impl Change {
                 low: 0,
             },
             turn: Turn::Stays,
+            standing,
         }
     }
 }
 
 impl State {
-    // No change, and the number of the refusal.
-    fn refuse(self, code: u8) -> Change
-        ensures { λ r. ⌜ carried self r ≡ refused code self ⌝ }
+    // No change, the number of the refusal, and where the partner stands.
+    fn refuse_with(self, code: u8, standing: Standing) -> Change
+        requires { ⌜ accepted < code ⌝ }
+        ensures { λ r. ⌜ carried self r ≡ refusedAt code standing self ⌝ }
     {
         let train = self.train;
         let marks = self.marks;
-        Change::noted(code, train, marks, Closing::Nothing)
+        Change::noted(code, train, marks, Closing::Nothing, standing)
+    }
+
+    // A refusal that says no place.
+    fn refuse(self, code: u8) -> Change
+        requires { ⌜ accepted < code ⌝ }
+        ensures { λ r. ⌜ carried self r ≡ refused code self ⌝ }
+    {
+        self.refuse_with(code, Standing::nowhere())
+    }
+
+    // A refusal that says the place and the phase in which the partner was found.
+    fn refuse_at(self, code: u8, place: usize, phase: Phase) -> Change
+        requires { ⌜ accepted < code ⌝ }
+        ensures { λ r. ⌜ carried self r ≡ refusedAt code (standing (At place phase)) self ⌝ }
+    {
+        let standing = Standing {
+            place,
+            phase: phase.number(),
+        };
+        self.refuse_with(code, standing)
     }
 
     // Another train and other marks.
     fn note(self, train: Train, marks: Marks) -> Change
         ensures { λ r. ⌜ carried self r ≡ done (withMarks (withTrain self train) marks) [] ⌝ }
     {
-        Change::noted(ACCEPTED, train, marks, Closing::Nothing)
+        Change::noted(
+            ACCEPTED,
+            train,
+            marks,
+            Closing::Nothing,
+            Standing::nowhere(),
+        )
     }
 
     // Another train, and every place closed.
@@ -98,7 +131,7 @@ impl State {
         ensures { λ r. ⌜ carried self r ≡ closePlaces Every (withTrain self train) ⌝ }
     {
         let marks = self.marks;
-        Change::noted(ACCEPTED, train, marks, Closing::Every)
+        Change::noted(ACCEPTED, train, marks, Closing::Every, Standing::nowhere())
     }
 
     fn level(self, level: u32, manual: bool) -> Change
@@ -185,6 +218,7 @@ impl State {
                 number: REQUEST,
                 phase,
             },
+            standing: Standing::nowhere(),
         }
     }
 
@@ -195,7 +229,7 @@ impl State {
         let marks = self.marks;
         if in_force(cause, train, marks) {
             match self.seek(partner) {
-                Found::At(_) => self.refuse(HAS_PLACE),
+                Found::At { place, phase } => self.refuse_at(HAS_PLACE, place, phase),
                 Found::Vacant(at) => {
                     self.take_in(
                         spend(cause, marks),
@@ -226,6 +260,7 @@ impl State {
             place,
             partner,
             turn,
+            standing: Standing::nowhere(),
         }
     }
 
@@ -234,7 +269,7 @@ impl State {
     {
         if partner.is_rbc() {
             match self.seek(partner) {
-                Found::At(_) => self.refuse(HAS_PLACE),
+                Found::At { place, phase } => self.refuse_at(HAS_PLACE, place, phase),
                 Found::Vacant(at) => {
                     let place = Place::held(Direction::Incoming, Phase::Open, partner);
                     let turn = Turn::Sends {
@@ -250,19 +285,19 @@ impl State {
         }
     }
 
-    // What an event that names this partner makes of its place.
-    fn turn(self, at: usize, partner: Partner, event: PartnerEvent) -> Change
+    // What an event that names this partner makes of the place where it was found, in this phase. The place is read before it is
+    // known whether it turns: the compiled code is shorter so.
+    fn turn(self, at: usize, phase: Phase, partner: Partner, event: PartnerEvent) -> Change
         requires { ⌜ at < placeCount ⌝ }
-        ensures { λ r.
-            ⌜ carried self r ≡ turned self at partner (placeTurn tryLimit (self .limits) (getD (self .places) at vacant) event) ⌝ }
+        ensures { λ r. ⌜ carried self r ≡ turned self at phase partner (turn tryLimit (self .limits) phase event) ⌝ }
     {
         let limits = self.limits;
-        let place = self.places[at];
-        let turn = place.turn(event, limits);
+        let place = self.place_at(at);
+        let turn = phase.turn(event, limits);
         if turn.is_taken() {
             self.set_place(at, place.after(turn), partner, turn)
         } else {
-            self.refuse(NOT_TAKEN)
+            self.refuse_at(NOT_TAKEN, at, phase)
         }
     }
 
@@ -270,7 +305,7 @@ impl State {
         ensures { λ r. ⌜ carried self r ≡ step tryLimit self (Event.Named partner event) ⌝ }
     {
         match self.seek(partner) {
-            Found::At(at) => self.turn(at, partner, event),
+            Found::At { place, phase } => self.turn(place, phase, partner, event),
             Found::Vacant(_) => self.refuse(HAS_NONE),
             Found::Full => self.refuse(HAS_NONE),
         }

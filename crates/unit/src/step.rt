@@ -5,7 +5,7 @@ ghost use lib.ListN.{length};
 ghost use Rattle.place.specs.Places.{tryLimit};
 ghost use Rattle.unit.specs.Steps.{closePlaces, step};
 ghost use Rattle.unit.specs.Forms.{mostActions, packed};
-ghost use Rattle.unit.specs.Changes.{closesAny, settled, carried};
+ghost use Rattle.unit.specs.Changes.{closesAny, settled, made};
 use crate::answer::Actions;
 use crate::answer::Answer;
 use crate::change::Change;
@@ -43,11 +43,7 @@ impl State {
         }
         let mut next = self;
         next.places = places;
-        Answer {
-            code: ACCEPTED,
-            state: next,
-            actions,
-        }
+        Answer::done(next, actions)
     }
 
     // The state with a change's train, marks and place.
@@ -70,8 +66,8 @@ impl State {
 
     // The closings of a change, then the rest of it.
     fn close_and_settle(self, change: Change) -> Answer
-        requires { ⌜ length (carried self change .actions) ≤ mostActions ⌝ }
-        ensures { λ r. ⌜ r ≡ packed (carried self change) ⌝ }
+        requires { ⌜ length (made self change .actions) ≤ mostActions ⌝ }
+        ensures { λ r. ⌜ r ≡ packed (made self change) ⌝ }
     {
         let which = change.which;
         let partner = change.partner;
@@ -79,11 +75,21 @@ impl State {
         let closed = self.close_places(which);
         let state = closed.state;
         let actions = closed.actions;
-        Answer {
-            code: change.code,
-            state: state.settle(change),
-            actions: actions.send(partner, turn),
+        Answer::done(state.settle(change), actions.send(partner, turn))
+    }
+
+    // What an accepted step changes.
+    fn make(self, change: Change) -> Answer
+        requires { ⌜ length (made self change .actions) ≤ mostActions ⌝ }
+        ensures { λ r. ⌜ r ≡ packed (made self change) ⌝ }
+    {
+        let which = change.which;
+        let partner = change.partner;
+        let turn = change.turn;
+        if closes_any(which) {
+            return self.close_and_settle(change);
         }
+        Answer::done(self.settle(change), Actions::none().send(partner, turn))
     }
 
     // One step: the next state and the actions in their order, or the refusal with the state as given.
@@ -91,16 +97,12 @@ impl State {
         ensures { λ r. ⌜ r ≡ packed (step tryLimit self event) ⌝ }
     {
         let change = self.change(event);
-        let which = change.which;
-        let partner = change.partner;
-        let turn = change.turn;
-        if closes_any(which) {
-            return self.close_and_settle(change);
-        }
-        Answer {
-            code: change.code,
-            state: self.settle(change),
-            actions: Actions::none().send(partner, turn),
+        let code = change.code;
+        let standing = change.standing;
+        if code == ACCEPTED {
+            self.make(change)
+        } else {
+            Answer::refused_at(code, standing, self)
         }
     }
 }

@@ -9,6 +9,7 @@ use place::limits::Limits;
 use place::place::Holding;
 use place::place::Place;
 use record::partner::Partner;
+use unit::answer::Stepped;
 use unit::bytes::ACTION_SIZE;
 use unit::state::Marks;
 use unit::state::State;
@@ -24,8 +25,8 @@ pub const HEAD_SIZE: usize = 8;
 
 pub const PLACE_SIZE: usize = 7;
 
-// The least bytes of what a step sends: code and count.
-const SENT_SIZE: usize = 2;
+// The bytes of a step's answer beside its state and its actions: code, count, place and phase.
+pub(crate) const ANSWER_SIZE: usize = 4;
 
 fn word_is(n: u32, s: &[u8], at: usize) -> bool {
     n == word(byte_at(s, at))
@@ -126,25 +127,40 @@ pub(crate) fn state_is(state: State, s: &[u8]) -> bool {
     and(head_is(state, s), places_are(state, rest(s, HEAD_SIZE)))
 }
 
-// The bytes of the actions that a code and a count at the front announce.
+// Whether the four bytes at the front are a step's code, count, place and phase.
+pub(crate) fn answer_is(stepped: Stepped, s: &[u8]) -> bool {
+    let standing = stepped.standing;
+    and(
+        and(
+            stepped.code == byte_at(s, 0),
+            stepped.count == number_at(s, 1),
+        ),
+        and(
+            standing.place == number_at(s, 2),
+            standing.phase == byte_at(s, 3),
+        ),
+    )
+}
+
+// The bytes of the actions that an answer at the front announces.
 fn actions_size(s: &[u8]) -> usize
     ensures { λ r. ⌜ r < 1280 ⌝ }
 {
     ACTION_SIZE * number_at(s, 1)
 }
 
-// The bytes of a code, a count and so many actions at the front.
+// The bytes of an answer and its actions at the front.
 pub(crate) fn sent_size(s: &[u8]) -> usize
-    ensures { λ r. ⌜ r < 1282 ⌝ }
+    ensures { λ r. ⌜ r < 1284 ⌝ }
 {
-    SENT_SIZE + actions_size(s)
+    ANSWER_SIZE + actions_size(s)
 }
 
-// Whether the bytes at the front are a code, a count and so many actions, which stand at the front of a buffer.
-pub(crate) fn sent_is(code: u8, count: usize, buffer: &[u8], s: &[u8]) -> bool {
+// Whether the bytes at the front are a step's answer and its actions, which stand at the front of a buffer.
+pub(crate) fn sent_is(stepped: Stepped, buffer: &[u8], s: &[u8]) -> bool {
     let size = actions_size(s);
     and(
-        and(code == byte_at(s, 0), count == number_at(s, 1)),
-        same(front(buffer, size), front(rest(s, SENT_SIZE), size)),
+        answer_is(stepped, s),
+        same(front(buffer, size), front(rest(s, ANSWER_SIZE), size)),
     )
 }

@@ -35,10 +35,7 @@ impl Walk {
         let stepped = state.on_record(announced(bytes), &mut buffer);
         let next = stepped.state;
         Walk {
-            holds: and(
-                self.holds,
-                sent_is(stepped.code, stepped.count, &buffer, sent),
-            ),
+            holds: and(self.holds, sent_is(stepped, &buffer, sent)),
             state: next,
             at: sum(self.at, 1 + number_at(bytes, 0) + sent_size(sent)),
         }

@@ -139,10 +139,7 @@ impl Row {
         let mission = mission_after(stepped.code, record, s);
         Row {
             holds: and(
-                and(
-                    self.holds,
-                    sent_is(stepped.code, stepped.count, &buffer, sent),
-                ),
+                and(self.holds, sent_is(stepped, &buffer, sent)),
                 and(
                     head_kept(next, mission, s),
                     places_are(next, rest(sent, size)),

@@ -1,5 +1,7 @@
 // Vectors of one call: a cold start, a step, a write and a reading of an image.
+use crate::expected::ANSWER_SIZE;
 use crate::expected::STATE_SIZE;
+use crate::expected::answer_is;
 use crate::expected::state_is;
 use crate::part::announced;
 use crate::part::beyond;
@@ -18,9 +20,6 @@ use unit::state::State;
 use wire::byte::byte_at;
 use wire::join::and;
 
-// The bytes of an answer before its buffer: code, count and state.
-const ANSWER_SIZE: usize = 38;
-
 // The limits in two bytes.
 pub(crate) fn limits_in(s: &[u8]) -> Limits {
     Limits {
@@ -38,17 +37,11 @@ fn started_is(started: Started, s: &[u8]) -> bool {
     )
 }
 
-// Whether these bytes are a code, a count, a state and a whole buffer, and nothing more.
-fn answer_is(code: u8, count: usize, state: State, buffer: &[u8], s: &[u8]) -> bool {
+// Whether these bytes are a state and a whole buffer, and nothing more.
+fn left_is(state: State, buffer: &[u8], s: &[u8]) -> bool {
     and(
-        and(
-            s.len() >= ANSWER_SIZE,
-            and(code == byte_at(s, 0), count == number_at(s, 1)),
-        ),
-        and(
-            state_is(state, rest(s, 2)),
-            same(buffer, rest(s, ANSWER_SIZE)),
-        ),
+        s.len() >= STATE_SIZE,
+        and(state_is(state, s), same(buffer, rest(s, STATE_SIZE))),
     )
 }
 
@@ -65,7 +58,13 @@ pub(crate) fn load_holds(s: &[u8]) -> bool {
 fn store_is(state: State, buffer: &mut [u8], s: &[u8]) -> bool {
     let stored = write_image(state, buffer);
     let next = stored.state;
-    answer_is(stored.code, stored.count, next, buffer, s)
+    and(
+        and(
+            stored.code == byte_at(s, 0),
+            stored.count == number_at(s, 1),
+        ),
+        left_is(next, buffer, rest(s, 2)),
+    )
 }
 
 // A write of an image.
@@ -79,7 +78,10 @@ pub(crate) fn store_holds(s: &[u8]) -> bool {
 fn step_is(state: State, record: &[u8], buffer: &mut [u8], s: &[u8]) -> bool {
     let stepped = state.on_record(record, buffer);
     let next = stepped.state;
-    answer_is(stepped.code, stepped.count, next, buffer, s)
+    and(
+        answer_is(stepped, s),
+        left_is(next, buffer, rest(s, ANSWER_SIZE)),
+    )
 }
 
 // A step.

@@ -19,7 +19,7 @@ const GROUPS: u8 = 9;
 // limits (2); code, state
 const COLD_START: u8 = 1;
 
-// state, record length (1), record, buffer length (1), fill (1); code, count, state, buffer
+// state, record length (1), record, buffer length (1), fill (1); code, count, place, phase, state, buffer
 const STEP: u8 = 2;
 
 // state, buffer length (1), fill (1); code, count, state, buffer
@@ -34,10 +34,12 @@ const RUN: u8 = 5;
 // state, budget (4), log length (4), pattern length (1), pattern; as for a run
 const LONG_RUN: u8 = 6;
 
-// limits (2), number of records (2), each record: length (1), record; code, count, actions; at the end: state
+// limits (2), number of records (2), each record: length (1), record; code, count, place, phase, actions; at the end:
+// state
 const HISTORY: u8 = 7;
 
-// eight bytes of a state, places 0 and 1, record length (1), record; 121 times: code, count, actions, four places
+// eight bytes of a state, places 0 and 1, record length (1), record; 121 times: code, count, place, phase, actions,
+// four places
 const MIXES: u8 = 8;
 
 // The group of a vector; 0 where no group has that number.

@@ -1,4 +1,4 @@
-// Vectors of which one is spoilt: the judge has to name it and no other.
+// Vectors of which four are spoilt: a code, a place, a phase, and a place where 4 is due. The judge has to name these and no other.
 fn main() {
     vectors::file::judge_file(b"spoilt.bin");
 }

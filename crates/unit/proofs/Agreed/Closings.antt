@@ -11,7 +11,6 @@ use lib.Seq.{getD-set-other}
 use borrow.Author.Tests.{eqb-true, eqb-false}
 use Rattle.record.specs.Partners.{isRbc}
 use Rattle.record.specs.Records.{missionEnded}
-use Rattle.wire.specs.Refusals as refusal
 use Rattle.record.specs.declared.partner.Partner.{Partner}
 use Rattle.record.specs.declared.event.Cause.{Cause}
 use Rattle.record.specs.declared.event.Event.the-variants.{Mission, Order, EndAll}
@@ -30,7 +29,7 @@ use Rattle.place.specs.declared.turn.Turn.the-variants.{Stays}
 use Rattle.place.specs.declared.turn.Closing.{Closing}
 use Rattle.place.specs.declared.turn.Closing.the-variants.{Every, Sessions, Nothing}
 use Rattle.unit.specs.States.{seek}
-use Rattle.unit.specs.Steps.{refused, inForce, closed, displaced, orderedAt, step}
+use Rattle.unit.specs.Steps.{inForce, closed, displaced, admitted, orderedAt, step}
 use Rattle.unit.specs.declared.state.State.{State}
 use Rattle.unit.specs.declared.search.Found.{Found}
 use Rattle.unit.specs.declared.search.Found.the-variants.{At, Vacant, Full}
@@ -98,8 +97,8 @@ absent p (q ∷ ps) (suc i) none held = absent p ps i (omega arith) held
 module _ (s : State) (p : Partner) where
   ordered-place : (accepting : Bool) (cause : Cause) (found : Found)
       → FoundOk p (s .places) found
-      → WasFree s p (orderedAt s p accepting cause found)
-  ordered-place accepting cause (At j) ok h i held = absurd (omega arith)
+      → WasFree s p (admitted s (orderedAt s p accepting cause) found)
+  ordered-place accepting cause (At j ph) ok h i held = absurd (omega arith)
   ordered-place accepting cause (Vacant j) ok h i held =
       let which = displaced p accepting in
       let none = closed-here which (s .places) p in
@@ -117,6 +116,6 @@ module _ (s : State) (p : Partner) where
   pub order-place : (n : ℕ) (accepting : Bool) (cause : Cause) → WasFree s p (step n s (Order p accepting cause))
   unfolding step
   order-place n accepting cause =
-      cond-case (WasFree s p) (inForce cause (s .train) (s .marks)) (orderedAt s p accepting cause (seek p (s .places))) (refused refusal.notInForce s)
+      cond-case (WasFree s p) (inForce cause (s .train) (s .marks)) _ _
       (λ in-force. ordered-place accepting cause (seek p (s .places)) (seek-ok p (s .places)))
       (λ not-in-force h. absurd (omega arith))

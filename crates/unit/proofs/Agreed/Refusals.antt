@@ -3,10 +3,9 @@
 use mathlib.Core.Path.{refl}
 use mathlib.Core.List.{List}
 use Prim.Native.Nat.{ℕ}
-use Rattle.wire.specs.Refusals as refusal
 use Rattle.record.specs.declared.event.Event.{Event}
 use Rattle.unit.specs.Steps.{Outcome, step}
-use Rattle.unit.specs.Concerns.{Concern}
+use Rattle.unit.specs.Standings.{Concern}
 use Rattle.unit.specs.OnRecords.{onRecord}
 use Rattle.unit.specs.declared.state.State.{State}
 use Rattle.unit.proofs.Shapes.{Shape, refuses, notes, closesEvery, orders, calls, turns, shape, on-record}
@@ -14,7 +13,7 @@ use Rattle.unit.specs.Kept.{Kept}
 
 module _ (n : ℕ) (s : State) where
   kept : {e : Event} {c : Concern} {o : Outcome} → Shape n s e c o → Kept s o
-  kept (refuses r may) = λ other. (refl, refl)
+  kept (refuses r may said) = λ other. (refl, refl)
   kept (notes t m within) = λ other. absurd (other refl)
   kept (closesEvery t within) = λ other. absurd (other refl)
   kept (orders p which m i within ok found) = λ other. absurd (other refl)

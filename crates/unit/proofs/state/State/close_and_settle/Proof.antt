@@ -1,13 +1,23 @@
 -- First the closings, then the place and the actions.
 use borrow.Author.Needs.{needs}
-use Rattle.unit.specs.Forms.{packed}
-use Rattle.unit.proofs.Settling.{packed-carried}
+use mathlib.Core.Path.{ap, _∙_}
+use Rattle.place.specs.Table.{numbers}
+use Rattle.unit.specs.Forms.{pushAll, packed}
+use Rattle.unit.specs.Changes.{settled}
+use Rattle.unit.proofs.Settling.{packed-made}
 use Rattle.unit.proofs.state.State.close_and_settle.Statement.{statement}
 use Rattle.unit.proofs.state.State.close_and_settle.Tie as tie
 
 returns : tie.Need-returns
 unfolding packed
-returns c = rw (c .send .ensures, c .before .settle .ensures, c .before .before .before .before .close-places .ensures) (packed-carried (c .before .before .before .before .before .before .args .self) (c .before .before .before .before .before .before .args .change) (c .before .before .before .before .before .before .pre))
+returns c =
+    let start = c .before .before .before .before .before .before .before in
+    let closing = c .before .before .before .before .before in
+    let settling = c .before .before in
+    let change = start .args .change in
+    packed-made (start .args .self) change (start .pre) _ _ _ (c .done .ensures)
+    (settling .settle .ensures ∙ ap (λ a. settled (a .state) change) (closing .close-places .ensures))
+    (c .before .send .ensures ∙ ap (λ a. pushAll (a .actions) (change .partner) (numbers (change .turn))) (closing .close-places .ensures))
 
 pub close-and-settle-spec : {M : Type 1} → statement M
-close-and-settle-spec = tie.close (tie.spec (λ c κs. search needs) (λ c κs. search needs) (λ c κs. search needs) returns)
+close-and-settle-spec = tie.close (tie.spec (λ c κs. search needs) (λ c κs. search needs) (λ c κs. search needs) (λ c κs. search needs) returns)

@@ -5,9 +5,8 @@ use mathlib.Core.List.{_++_}
 use Prim.Native.Nat.{_-_, _≤_}
 use native.Mathlib.Omega.{arith}
 use lib.ListN.{length, length-map, take, drop}
-use Rattle.unit.specs.Steps.{closed, closingActions, withPlaces}
-use Rattle.unit.specs.Forms.{listed}
-use Rattle.unit.proofs.Rules.{packed-done}
+use Rattle.unit.specs.Steps.{done, closed, closingActions, withPlaces}
+use Rattle.unit.specs.Forms.{listed, packed}
 use Rattle.unit.proofs.Closings.{closings-places, closings-actions, closings-all, sent-all}
 use Rattle.unit.proofs.state.State.close_places.Statement.{statement}
 use Rattle.unit.proofs.state.State.close_places.Tie as tie
@@ -30,9 +29,13 @@ loop-again c = (omega arith, closings-places (c .before .before .before .before 
 
 returns : tie.Need-returns Inv-loop μ-loop
 returns c =
-    packed-done _ (withPlaces (c .before .before .before .before .args .self) (closed (c .before .before .before .before .args .which) (c .before .before .before .before .args .self .places))) _ (closingActions (c .before .before .before .before .args .which) (c .before .before .before .before .args .self .places))
-    (ap (withPlaces (c .before .before .before .before .args .self)) (c .before .loop .inv .1 ∙ closings-all (c .before .before .before .before .args .which) (c .before .before .before .before .args .self .places) (c .before .loop .i) (omega (arith, four (c .before .before .before .before)))))
-    (c .before .loop .inv .2 ∙ sent-all (c .before .before .before .before .args .which) (c .before .before .before .before .args .self .places) (c .before .loop .i) (omega (arith, four (c .before .before .before .before))))
+    let start = c .before .before .before .before .before in
+    let end = c .before .before in
+    let which = start .args .which in
+    let ps = start .args .self .places in
+    c .done .ensures (closingActions which ps) (end .loop .inv .2 ∙ sent-all which ps (end .loop .i) (omega (arith, four start)))
+    ∙ ap (λ l. packed (done (withPlaces (start .args .self) l) (closingActions which ps)))
+    (end .loop .inv .1 ∙ closings-all which ps (end .loop .i) (omega (arith, four start)))
 
 pub close-places-spec : {M : Type 1} → statement M
-close-places-spec = tie.close (tie.spec Inv-loop μ-loop (λ c κs. search needs) loop-holds (λ c. search needs) (λ c. omega arith) (λ c κs. search needs) (λ c κs. search needs) (λ c κs. search needs) (λ c κs. search needs) (λ c. search needs) (λ c. omega arith) (λ c. omega arith) (λ c. omega arith) loop-again returns)
+close-places-spec = tie.close (tie.spec Inv-loop μ-loop (λ c κs. search needs) loop-holds (λ c. search needs) (λ c. omega arith) (λ c κs. search needs) (λ c κs. search needs) (λ c κs. search needs) (λ c κs. search needs) (λ c. search needs) (λ c. omega arith) (λ c. omega arith) (λ c. omega arith) loop-again (λ c κs. search needs) returns)

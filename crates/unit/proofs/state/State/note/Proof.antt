@@ -1,4 +1,4 @@
--- The train and the marks as given.
+-- The train and the marks alone.
 use borrow.Author.Needs.{needs}
 use mathlib.Core.Path.{sym, ap, _∙_}
 use lib.ListN.{length-map}
@@ -8,7 +8,9 @@ use Rattle.unit.proofs.state.State.note.Statement.{statement}
 use Rattle.unit.proofs.state.State.note.Tie as tie
 
 returns : tie.Need-returns
-returns c = ap (carried (c .before .args .self)) (c .noted .ensures) ∙ carried-quiet (c .before .args .self) (sym (length-map (c .before .args .self .places) _) ∙ c .before .good .0 .1 .1 .1 .1 .1 .0 .1 .0 .1) _ _ _
+returns c =
+    let start = c .before .before in
+    ap (carried (start .args .self)) (c .noted .ensures) ∙ carried-quiet (start .args .self) (sym (length-map (start .args .self .places) _) ∙ start .good .0 .1 .1 .1 .1 .1 .0 .1 .0 .1) _ _ _
 
 pub note-spec : {M : Type 1} → statement M
-note-spec = tie.close (tie.spec (λ c κs. search needs) returns)
+note-spec = tie.close (tie.spec (λ c κs. search needs) (λ c κs. search needs) returns)

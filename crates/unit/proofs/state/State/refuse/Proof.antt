@@ -1,14 +1,14 @@
--- The train and the marks as they are.
+-- The partner stands nowhere.
 use borrow.Author.Needs.{needs}
-use mathlib.Core.Path.{sym, ap, _∙_}
-use lib.ListN.{length-map}
-use Rattle.unit.specs.Changes.{carried}
-use Rattle.unit.proofs.Settling.{carried-quiet}
+use mathlib.Core.Path.{ap, _∙_}
+use Rattle.unit.specs.Steps.{refusedAt}
 use Rattle.unit.proofs.state.State.refuse.Statement.{statement}
 use Rattle.unit.proofs.state.State.refuse.Tie as tie
 
 returns : tie.Need-returns
-returns c = ap (carried (c .before .before .before .args .self)) (c .noted .ensures) ∙ carried-quiet (c .before .before .before .args .self) (sym (length-map (c .before .before .before .args .self .places) _) ∙ c .before .before .before .good .0 .1 .1 .1 .1 .1 .0 .1 .0 .1) _ _ _
+returns c =
+    let start = c .before .before in
+    c .refuse-with .ensures ∙ ap (λ w. refusedAt (start .args .code) w (start .args .self)) (c .before .nowhere .ensures)
 
 pub refuse-spec : {M : Type 1} → statement M
-refuse-spec = tie.close (tie.spec (λ c κs. search needs) returns)
+refuse-spec = tie.close (tie.spec (λ c κs. search needs) (λ c κs. search needs) returns)

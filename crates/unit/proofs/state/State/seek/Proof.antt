@@ -1,8 +1,9 @@
 -- The partner is looked for first, then a free place.
 use borrow.Author.Needs.{needs}
-use mathlib.Core.Path.{_≡_, sym, _∙_}
+use mathlib.Core.Path.{_≡_, sym, ap, _∙_}
 use native.Mathlib.Omega.{arith}
 use lib.ListN.{length, length-map}
+use Rattle.place.specs.Places.{heldPhase}
 use Rattle.unit.proofs.Searches.{seek-at, seek-vacant, seek-full}
 use Rattle.unit.proofs.state.State.seek.Statement.{statement}
 use Rattle.unit.proofs.state.State.seek.Tie as tie
@@ -11,7 +12,11 @@ four : (c : tie.Start) → length (c .args .self .places) ≡ 4
 four c = sym (length-map (c .args .self .places) _) ∙ c .good .0 .1 .1 .1 .1 .1 .0 .1 .0 .1
 
 returns : tie.Need-returns
-returns c = seek-at (c .before .before .args .partner) (c .before .before .args .self .places) _ (c .before .place-from .ensures) (omega (arith, four (c .before .before)))
+returns c =
+    let start = c .before .before .before .before in
+    let held = c .before .before .before in
+    seek-at (start .args .partner) (start .args .self .places) _ (held .place-from .ensures) _ (omega (arith, four start))
+    (c .held-phase .ensures ∙ ap heldPhase (c .before .place-at .ensures))
 
 returns-2 : tie.Need-returns-2
 returns-2 c = seek-vacant (c .before .before .before .before .args .partner) (c .before .before .before .before .args .self .places) _ (c .before .before .before .place-from .ensures) (omega (arith, four (c .before .before .before .before))) _ (c .before .lowest-free .ensures) (omega (arith, four (c .before .before .before .before)))
@@ -20,4 +25,4 @@ returns-3 : tie.Need-returns-3
 returns-3 c = seek-full (c .before .before .before .before .args .partner) (c .before .before .before .before .args .self .places) _ (c .before .before .before .place-from .ensures) (omega (arith, four (c .before .before .before .before))) _ (c .before .lowest-free .ensures) (omega (arith, four (c .before .before .before .before)))
 
 pub seek-spec : {M : Type 1} → statement M
-seek-spec = tie.close (tie.spec (λ c κs. search needs) returns (λ c κs. search needs) returns-2 returns-3)
+seek-spec = tie.close (tie.spec (λ c κs. search needs) (λ c κs. search needs) (λ c κs. search needs) returns (λ c κs. search needs) returns-2 returns-3)

@@ -1,10 +1,13 @@
 -- No place is closed.
+use borrow.Author.Needs.{needs}
 use Rattle.unit.proofs.Settling.{carried-set}
 use Rattle.unit.proofs.state.State.set_place.Statement.{statement}
 use Rattle.unit.proofs.state.State.set_place.Tie as tie
 
 returns : tie.Need-returns
-returns c = carried-set (c .before .before .args .self) _ _ _ _
+returns c =
+    let start = c .before .before .before in
+    carried-set (start .args .self) _ _ _ _ _
 
 pub set-place-spec : {M : Type 1} → statement M
-set-place-spec = tie.close (tie.spec returns)
+set-place-spec = tie.close (tie.spec (λ c κs. search needs) returns)

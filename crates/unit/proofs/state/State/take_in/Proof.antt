@@ -5,7 +5,9 @@ use Rattle.unit.proofs.state.State.take_in.Statement.{statement}
 use Rattle.unit.proofs.state.State.take_in.Tie as tie
 
 returns : tie.Need-returns
-returns c = rw (c .held .ensures) (carried-take (c .before .before .args .self) _ _ _ _)
+returns c =
+    let start = c .before .before .before in
+    rw (c .before .held .ensures) (carried-take (start .args .self) _ _ _ _ _)
 
 pub take-in-spec : {M : Type 1} → statement M
-take-in-spec = tie.close (tie.spec (λ c κs. search needs) returns)
+take-in-spec = tie.close (tie.spec (λ c κs. search needs) (λ c κs. search needs) returns)
