@@ -1,9 +1,8 @@
 -- No second answer satisfies the contract of a public function: a line for each of this crate's, over the contract as the checker names it.
--- Proves: write-image-once, state-in-once, same-once, read-image-once.
+-- Proves: write-image-once, same-once, read-image-once.
 use mathlib.Core.Path.{_≡_, sym, _∙_}
 use denote.Ref.{now}
 use Rattle.image.proofs.write.write_image.Reads as write-image
-use Rattle.image.proofs.read.state_in.Reads as state-in
 use Rattle.image.proofs.read.same.Reads as same
 use Rattle.image.proofs.read.read_image.Reads as read-image
 
@@ -12,12 +11,6 @@ pub write-image-once : (κ : _) (state : _) (buffer : _) (r₁ : _) (r₂ : _) (
     → write-image.Post κ (state, (buffer, tt)) r₂ (state, (buffer₂, tt))
     → (r₁ ≡ r₂) × (now buffer₁ ≡ now buffer₂)
 write-image-once κ state buffer r₁ r₂ buffer₁ buffer₂ p q = (p .0 ∙ sym (q .0), p .1 ∙ sym (q .1))
-
-pub state-in-once : (κ : _) (body : _) (r₁ : _) (r₂ : _)
-    → state-in.Post κ (body, tt) r₁ (body, tt)
-    → state-in.Post κ (body, tt) r₂ (body, tt)
-    → r₁ ≡ r₂
-state-in-once κ body r₁ r₂ p q = p ∙ sym q
 
 pub same-once : (κ : _) (a : _) (b : _) (r₁ : _) (r₂ : _)
     → same.Post κ (a, (b, tt)) r₁ (a, (b, tt))

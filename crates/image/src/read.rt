@@ -99,7 +99,7 @@ fn marks_in(s: &[u8]) -> Marks
 }
 
 // The state that an image's body, its bytes after the kind, stands for, if it stands for any: nothing is tested.
-pub fn state_in(body: &[u8]) -> State
+fn state_in(body: &[u8]) -> State
     ensures { λ r. ⌜ r ≡ stateIn (now (body .entry)) ⌝ }
 {
     State {

@@ -1,16 +1,10 @@
 -- No second answer satisfies the contract of a public function: a line for each of this crate's, over the contract as the checker names it.
--- Proves: phase-number-once, phase-tries-once, phase-fits-incoming-once, phase-in-session-once, phase-not-ending-once,
--- phase-in-range-once, phase-closing-once, phase-turn-once, direction-number-once, place-free-once, place-held-once,
+-- Proves: phase-number-once, phase-tries-once, phase-turn-once, direction-number-once, place-free-once, place-held-once,
 -- place-is-free-once, place-partner-once, place-held-phase-once, place-holds-once, place-is-sound-once, place-closed-by-once,
 -- place-after-once, turn-is-taken-once.
 use mathlib.Core.Path.{_≡_, sym, _∙_}
 use Rattle.place.proofs.phase.Phase.number.Reads as phase-number
 use Rattle.place.proofs.phase.Phase.tries.Reads as phase-tries
-use Rattle.place.proofs.phase.Phase.fits_incoming.Reads as phase-fits-incoming
-use Rattle.place.proofs.phase.Phase.in_session.Reads as phase-in-session
-use Rattle.place.proofs.phase.Phase.not_ending.Reads as phase-not-ending
-use Rattle.place.proofs.phase.Phase.in_range.Reads as phase-in-range
-use Rattle.place.proofs.phase.Phase.closing.Reads as phase-closing
 use Rattle.place.proofs.phase.Phase.turn.Reads as phase-turn
 use Rattle.place.proofs.place.Direction.number.Reads as direction-number
 use Rattle.place.proofs.place.Place.free.Reads as place-free
@@ -35,36 +29,6 @@ pub phase-tries-once : (κ : _) (self : _) (r₁ : _) (r₂ : _)
     → phase-tries.Post κ (self, tt) r₂ (self, tt)
     → r₁ ≡ r₂
 phase-tries-once κ self r₁ r₂ p q = p ∙ sym q
-
-pub phase-fits-incoming-once : (κ : _) (self : _) (r₁ : _) (r₂ : _)
-    → phase-fits-incoming.Post κ (self, tt) r₁ (self, tt)
-    → phase-fits-incoming.Post κ (self, tt) r₂ (self, tt)
-    → r₁ ≡ r₂
-phase-fits-incoming-once κ self r₁ r₂ p q = p ∙ sym q
-
-pub phase-in-session-once : (κ : _) (self : _) (r₁ : _) (r₂ : _)
-    → phase-in-session.Post κ (self, tt) r₁ (self, tt)
-    → phase-in-session.Post κ (self, tt) r₂ (self, tt)
-    → r₁ ≡ r₂
-phase-in-session-once κ self r₁ r₂ p q = p ∙ sym q
-
-pub phase-not-ending-once : (κ : _) (self : _) (r₁ : _) (r₂ : _)
-    → phase-not-ending.Post κ (self, tt) r₁ (self, tt)
-    → phase-not-ending.Post κ (self, tt) r₂ (self, tt)
-    → r₁ ≡ r₂
-phase-not-ending-once κ self r₁ r₂ p q = p ∙ sym q
-
-pub phase-in-range-once : (κ : _) (self : _) (r₁ : _) (r₂ : _)
-    → phase-in-range.Post κ (self, tt) r₁ (self, tt)
-    → phase-in-range.Post κ (self, tt) r₂ (self, tt)
-    → r₁ ≡ r₂
-phase-in-range-once κ self r₁ r₂ p q = p ∙ sym q
-
-pub phase-closing-once : (κ : _) (self : _) (r₁ : _) (r₂ : _)
-    → phase-closing.Post κ (self, tt) r₁ (self, tt)
-    → phase-closing.Post κ (self, tt) r₂ (self, tt)
-    → r₁ ≡ r₂
-phase-closing-once κ self r₁ r₂ p q = p ∙ sym q
 
 pub phase-turn-once : (κ : _) (self : _) (event : _) (limits : _) (r₁ : _) (r₂ : _)
     → phase-turn.Post κ (self, (event, (limits, tt))) r₁ (self, (event, (limits, tt)))

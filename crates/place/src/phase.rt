@@ -60,7 +60,7 @@ impl Phase {
     }
 
     // Whether an incoming place may have it.
-    pub fn fits_incoming(self) -> bool
+    pub(crate) fn fits_incoming(self) -> bool
         ensures { λ r. ⌜ r ≡ fitsIncoming self ⌝ }
     {
         match self {
@@ -73,7 +73,7 @@ impl Phase {
     }
 
     // Whether it is a session, open or lost.
-    pub fn in_session(self) -> bool
+    pub(crate) fn in_session(self) -> bool
         ensures { λ r. ⌜ r ≡ inSession self ⌝ }
     {
         match self {
@@ -86,7 +86,7 @@ impl Phase {
     }
 
     // Whether an end all closes it.
-    pub fn not_ending(self) -> bool
+    pub(crate) fn not_ending(self) -> bool
         ensures { λ r. ⌜ r ≡ notEnding self ⌝ }
     {
         match self {
@@ -99,7 +99,7 @@ impl Phase {
     }
 
     // Whether the tries used are in their range.
-    pub fn in_range(self) -> bool
+    pub(crate) fn in_range(self) -> bool
         ensures { λ r. ⌜ r ≡ phaseOk tryLimit self ⌝ }
     {
         match self {

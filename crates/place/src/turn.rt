@@ -116,7 +116,7 @@ fn judge(version: u8, limits: Limits) -> Turn
 
 impl Phase {
     // Closing: a release, or from Open a termination; an ending place is not closed.
-    pub fn closing(self) -> Turn
+    pub(crate) fn closing(self) -> Turn
         ensures { λ r. ⌜ r ≡ closing self ⌝ }
     {
         match self {

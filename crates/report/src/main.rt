@@ -2,9 +2,9 @@
 use libc::STDIN_FILENO;
 use libc::STDOUT_FILENO;
 use place::limits::Limits;
-use run::Report;
-use run::Totals;
-use run::run;
+use unit::run::Report;
+use unit::run::Totals;
+use unit::run::run;
 use unit::start::cold_start;
 
 fn number(n: u64) {

@@ -2,14 +2,11 @@
 use libc::STDIN_FILENO;
 use libc::STDOUT_FILENO;
 use place::limits::Limits;
-use record::event::Reading;
-use record::read::read;
-use run::Taken;
-use run::run;
-use run::take_one;
 use text::end_into;
 use text::line_into;
-use unit::answer::Answer;
+use unit::run::Taken;
+use unit::run::run;
+use unit::run::take_one;
 use unit::start::cold_start;
 use unit::state::State;
 use wire::byte::byte_at;
@@ -32,14 +29,6 @@ fn write_line(line: &[u8], used: usize) {
     }
 }
 
-// What the box answers to a record.
-fn answer_to(state: State, bytes: &[u8]) -> Answer {
-    match read(bytes) {
-        Reading::Meant(event) => state.step(event),
-        Reading::Refused(code) => Answer::refused(code, state),
-    }
-}
-
 impl Page {
     // Prints the line of the record that stands next, if one stands whole.
     fn next(self, log: &[u8]) -> Page {
@@ -55,7 +44,7 @@ impl Page {
             return self;
         }
         let end = at + length;
-        let answer = answer_to(state, &log[at..end]);
+        let answer = state.apply(&log[at..end]);
         let number = self.number % 4096 + 1;
         let mut line = [0u8; 192];
         let actions = answer.actions;

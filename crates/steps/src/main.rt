@@ -3,9 +3,9 @@
 use libc::STDIN_FILENO;
 use libc::STDOUT_FILENO;
 use place::limits::Limits;
-use run::Taken;
-use run::take_one;
 use std::num::wrapping_add_u64;
+use unit::run::Taken;
+use unit::run::take_one;
 use unit::start::cold_start;
 use unit::state::State;
 use wire::refusal::ACCEPTED;

@@ -2,6 +2,7 @@
 -- refused first at the sentence that it breaks.
 pub mod Closings
 pub mod Examples
+pub mod Records
 pub mod Refusals
 pub mod Standings
 pub mod Writing

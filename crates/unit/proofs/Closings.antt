@@ -18,7 +18,8 @@ use Rattle.place.specs.declared.turn.Closing.{Closing}
 use Rattle.record.specs.declared.partner.Partner.{Partner}
 use Rattle.unit.specs.declared.answer.Actions.{Actions}
 use Rattle.unit.specs.Steps.{act, actionsIn, closed, closingActions}
-use Rattle.unit.specs.Forms.{mostActions, listed, pushAll}
+use Rattle.unit.specs.Forms.{mostActions, listed}
+use Rattle.unit.specs.Changes.{pushAll}
 use Rattle.unit.proofs.Weights.{weigh-few, length-closed}
 use Rattle.unit.specs.Kept.{here}
 use Rattle.unit.proofs.Few.{busy, once-few, closedBy-few, closingActions-few}

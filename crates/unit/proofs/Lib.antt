@@ -20,5 +20,6 @@ pub mod OnBytes
 pub mod Effects
 pub mod Sent
 pub mod Quiet
+pub mod Runs
 pub mod OneAnswer
 pub mod Agreed

@@ -15,7 +15,7 @@ use Rattle.wire.specs.Refusals.{noRoom, notSound}
 use Rattle.record.specs.declared.event.Reading.{Reading}
 use Rattle.unit.specs.States.{sound}
 use Rattle.unit.specs.Steps.{Outcome, refused}
-use Rattle.unit.specs.OnRecords.{actionSize, actionRoom, onReading, onBytes, onRecord, written}
+use Rattle.unit.specs.OnRecords.{actionSize, actionRoom, onReading, applied, onRecord, written}
 use Rattle.unit.specs.Forms.{mostActions, listed, packed, stepped}
 use Rattle.unit.specs.declared.state.State.{State}
 use Rattle.unit.specs.declared.answer.Answer.{Answer}
@@ -23,10 +23,10 @@ use Rattle.unit.specs.declared.answer.Stepped.{Stepped}
 use Rattle.unit.proofs.Written.{listed-take}
 
 module _ (n : ℕ) (s : State) (bytes : List ℕ) where
-  pub bytes-unsound : sound n s ≡ false → onBytes n s bytes ≡ refused notSound s
+  pub bytes-unsound : sound n s ≡ false → applied n s bytes ≡ refused notSound s
   bytes-unsound bad = simp bad
 
-  pub bytes-reading : (r : Reading) → sound n s ≡ true → reading bytes ≡ r → onBytes n s bytes ≡ onReading n s r
+  pub bytes-reading : (r : Reading) → sound n s ≡ true → reading bytes ≡ r → applied n s bytes ≡ onReading n s r
   bytes-reading r good means = simp (good, means)
 
   module _ (room : ℕ) where
@@ -34,7 +34,7 @@ module _ (n : ℕ) (s : State) (bytes : List ℕ) where
     unfolding onRecord
     on-room small = simp (lt-leb actionRoom room small)
 
-    pub on-enough : actionRoom ≤ room → onRecord n s bytes room ≡ onBytes n s bytes
+    pub on-enough : actionRoom ≤ room → onRecord n s bytes room ≡ applied n s bytes
     unfolding onRecord
     on-enough enough = simp (le-leb actionRoom room enough)
 

@@ -26,8 +26,8 @@ use Rattle.place.specs.declared.turn.Closing.{Closing}
 use Rattle.place.specs.declared.turn.Closing.the-variants.{Every, Sessions, Nothing}
 use Rattle.unit.specs.States.{placeCount}
 use Rattle.unit.specs.Steps.{refusedAt, done, act, actionsIn, withTrain, withMarks, withPlaces, closed, closingActions, closePlaces, takenIn, step}
-use Rattle.unit.specs.Forms.{mostActions, listed, pushAll, packed}
-use Rattle.unit.specs.Changes.{noted, closesAny, settled, made, carried}
+use Rattle.unit.specs.Forms.{mostActions, listed, packed}
+use Rattle.unit.specs.Changes.{pushAll, noted, closesAny, settled, made, carried}
 use Rattle.unit.specs.declared.state.Train.{Train}
 use Rattle.unit.specs.declared.state.Marks.{Marks}
 use Rattle.unit.specs.declared.state.State.{State}

@@ -1,12 +1,9 @@
 -- The answer of a step as the code holds it, its actions in an array of four.
--- Defines: mostActions, noAction, listed, pushed, pushAll, packed, stepped.
-use Prim.Native.Nat.{ℕ, _+_}
-use mathlib.Core.Bool.{cond}
-use mathlib.Core.List.{List, [], _∷_, _++_}
-use lib.Dec.{ltb}
-use lib.ListN.{length, take, set, replicate}
-use Rattle.record.specs.declared.partner.Partner.{Partner}
-use Rattle.unit.specs.Steps.{Outcome, act}
+-- Defines: mostActions, noAction, listed, packed, stepped.
+use Prim.Native.Nat.{ℕ}
+use mathlib.Core.List.{List, _++_}
+use lib.ListN.{length, take, replicate}
+use Rattle.unit.specs.Steps.{Outcome}
 use Rattle.unit.specs.declared.answer.Action.{Action}
 use Rattle.unit.specs.declared.answer.Actions.{Actions}
 use Rattle.unit.specs.declared.answer.Answer.{Answer}
@@ -23,16 +20,6 @@ noAction = record { number = 0; partner = record { kind = 0; high = 0; middle = 
 -- the actions as the code holds them
 unfoldable pub listed : List Action → Actions
 listed acts = record { items = take mostActions (acts ++ replicate mostActions noAction); count = length acts }
-
--- one more action, where there is room for it
-unfoldable pub pushed : Actions → Partner → ℕ → Actions
-pushed a p number =
-    cond (ltb (a .count) mostActions) (record { items = set (a .items) (a .count) (act p number); count = a .count + 1 }) a
-
--- the actions of these numbers for one partner, in their order
-unfoldable pub pushAll : Actions → Partner → List ℕ → Actions
-pushAll a p [] = a
-pushAll a p (number ∷ ks) = pushAll (pushed a p number) p ks
 
 -- an outcome as the code holds it
 unfoldable pub packed : Outcome → Answer

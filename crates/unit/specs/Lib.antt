@@ -7,3 +7,5 @@ pub mod Forms
 pub mod Examples
 pub mod Changes
 pub mod Kept
+pub mod Runs
+pub mod Counting

@@ -1,5 +1,5 @@
 -- Document 01, "Rules of one step" on bytes: the step on a record, and the bytes of its actions.
--- Defines: actionRoom, actionSize, onReading, onBytes, onRecord, trace, bytesOf, actionBytes, written.
+-- Defines: actionRoom, actionSize, onReading, applied, onRecord, trace, bytesOf, actionBytes, written.
 use Prim.Native.Nat.{ℕ, _*_}
 use mathlib.Core.Bool.{cond}
 use mathlib.Core.List.{List, [], _∷_, _++_}
@@ -29,12 +29,12 @@ onReading n s (Meant e) = step n s e
 onReading n s (Refused r) = refused r s
 
 -- "11, then 1 (empty), 2, 1 (length), 3; then .."
-abbrev pub onBytes : ℕ → State → List ℕ → Outcome
-onBytes n s bytes = cond (sound n s) (onReading n s (reading bytes)) (refused notSound s)
+abbrev pub applied : ℕ → State → List ℕ → Outcome
+applied n s bytes = cond (sound n s) (onReading n s (reading bytes)) (refused notSound s)
 
 -- "Step: 10, 11, ..": room is the length of the action buffer
 unfoldable pub onRecord : ℕ → State → List ℕ → ℕ → Outcome
-onRecord n s bytes room = cond (leb actionRoom room) (onBytes n s bytes) (refused noRoom s)
+onRecord n s bytes room = cond (leb actionRoom room) (applied n s bytes) (refused noRoom s)
 
 -- the outcomes of a history, "a row of event records, each given 20 bytes for its actions"
 unfoldable pub trace : ℕ → State → List (List ℕ) → List Outcome

@@ -3,7 +3,8 @@ ghost use mathlib.Core.Path.{_≡_};
 ghost use mathlib.Core.List.{List, []};
 ghost use Rattle.place.specs.Table.{numbers};
 ghost use Rattle.unit.specs.Steps.{refusedAt, refused, done};
-ghost use Rattle.unit.specs.Forms.{listed, pushed, pushAll, packed};
+ghost use Rattle.unit.specs.Forms.{listed, packed};
+ghost use Rattle.unit.specs.Changes.{pushed, pushAll};
 use crate::search::Standing;
 use crate::state::State;
 use place::action::RELEASE;
@@ -44,7 +45,7 @@ pub struct Stepped {
 
 impl Actions {
     // No action.
-    pub fn none() -> Actions
+    pub(crate) fn none() -> Actions
         ensures { λ r. ⌜ r ≡ listed [] ⌝ }
     {
         let partner = Partner {
@@ -60,7 +61,7 @@ impl Actions {
     }
 
     // One more action, after the others; none where four stand already.
-    pub fn push(self, partner: Partner, number: u8) -> Actions
+    pub(crate) fn push(self, partner: Partner, number: u8) -> Actions
         ensures { λ r. ⌜ r ≡ pushed self partner number ⌝ }
     {
         let count = self.count;
@@ -77,7 +78,7 @@ impl Actions {
     }
 
     // The actions of a turn, after the others.
-    pub fn send(self, partner: Partner, turn: Turn) -> Actions
+    pub(crate) fn send(self, partner: Partner, turn: Turn) -> Actions
         ensures { λ r. ⌜ r ≡ pushAll self partner (numbers turn) ⌝ }
     {
         match turn {
@@ -108,7 +109,7 @@ impl Answer {
     }
 
     // A refusal: the state as given, no action.
-    pub fn refused(code: u8, state: State) -> Answer
+    pub(crate) fn refused(code: u8, state: State) -> Answer
         ensures { λ r. ⌜ r ≡ packed (refused code state) ⌝ }
     {
         Answer::refused_at(code, Standing::nowhere(), state)

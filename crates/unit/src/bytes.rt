@@ -4,7 +4,7 @@ ghost use Prim.Native.Nat.{_+_, _*_, _≤_};
 ghost use lib.ListN.{length, take};
 ghost use lib.Seq.{sets};
 ghost use Rattle.place.specs.Places.{tryLimit};
-ghost use Rattle.unit.specs.OnRecords.{actionSize, bytesOf, written, onBytes, onRecord};
+ghost use Rattle.unit.specs.OnRecords.{actionSize, bytesOf, written, applied, onRecord};
 ghost use Rattle.unit.specs.Forms.{mostActions, packed, stepped};
 use crate::answer::Action;
 use crate::answer::Actions;
@@ -49,9 +49,9 @@ fn put_all(s: &mut [u8], actions: Actions)
 }
 
 impl State {
-    // One step on the bytes of an event record: refusals 11, 1, 2, 1, 3 and then those of the event, the first that applies.
-    fn on_bytes(self, bytes: &[u8]) -> Answer
-        ensures { λ r. ⌜ r ≡ packed (onBytes tryLimit self (now (bytes .entry))) ⌝ }
+    // Applies an event record: refusals 11, 1, 2, 1, 3 and then those of the event, the first that applies; the actions as values.
+    pub fn apply(self, bytes: &[u8]) -> Answer
+        ensures { λ r. ⌜ r ≡ packed (applied tryLimit self (now (bytes .entry))) ⌝ }
     {
         if self.is_sound() {
             match read(bytes) {
@@ -70,7 +70,7 @@ impl State {
         if room < ACTION_ROOM {
             Answer::refused(NO_ROOM, self)
         } else {
-            self.on_bytes(bytes)
+            self.apply(bytes)
         }
     }
 

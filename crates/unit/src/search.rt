@@ -85,7 +85,7 @@ impl State {
     }
 
     // The place and the phase of a partner, else the lowest free place, else that all are taken.
-    pub fn seek(self, partner: Partner) -> Found
+    pub(crate) fn seek(self, partner: Partner) -> Found
         ensures { λ r. ⌜ r ≡ seek partner (self .places) ⌝ }
     {
         let held = self.place_from(partner, 0);

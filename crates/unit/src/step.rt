@@ -93,7 +93,7 @@ impl State {
     }
 
     // One step: the next state and the actions in their order, or the refusal with the state as given.
-    pub fn step(self, event: Event) -> Answer
+    pub(crate) fn step(self, event: Event) -> Answer
         ensures { λ r. ⌜ r ≡ packed (step tryLimit self event) ⌝ }
     {
         let change = self.change(event);

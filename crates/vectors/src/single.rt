@@ -3,30 +3,21 @@ use crate::expected::ANSWER_SIZE;
 use crate::expected::STATE_SIZE;
 use crate::expected::answer_is;
 use crate::expected::state_is;
+use crate::given::limits_in;
+use crate::given::state_in;
 use crate::part::announced;
 use crate::part::beyond;
 use crate::part::filled;
 use crate::part::number_at;
 use crate::part::rest;
-use crate::part::word;
 use image::read::read_image;
 use image::read::same;
-use image::read::state_in;
 use image::write::write_image;
-use place::limits::Limits;
 use unit::start::Started;
 use unit::start::cold_start;
 use unit::state::State;
 use wire::byte::byte_at;
 use wire::join::and;
-
-// The limits in two bytes.
-pub(crate) fn limits_in(s: &[u8]) -> Limits {
-    Limits {
-        lowest: word(byte_at(s, 0)),
-        highest: word(byte_at(s, 1)),
-    }
-}
 
 // Whether these bytes are a code and a state, and nothing more.
 fn started_is(started: Started, s: &[u8]) -> bool {

@@ -1,7 +1,7 @@
 -- There is room while fewer than four stand.
 use borrow.Author.Needs.{needs}
 use borrow.Author.Tests.{lt-ltb, le-ltb}
-use Rattle.unit.specs.Forms.{pushed}
+use Rattle.unit.specs.Changes.{pushed}
 use Rattle.unit.proofs.answer.Actions.push.Statement.{statement}
 use Rattle.unit.proofs.answer.Actions.push.Tie as tie
 

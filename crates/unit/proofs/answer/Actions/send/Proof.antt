@@ -2,7 +2,7 @@
 use borrow.Author.Needs.{needs}
 use mathlib.Core.Path.{sym, ap, _∙_}
 use Rattle.place.specs.Table.{numbers}
-use Rattle.unit.specs.Forms.{pushed, pushAll}
+use Rattle.unit.specs.Changes.{pushed, pushAll}
 use Rattle.unit.proofs.answer.Actions.send.Statement.{statement}
 use Rattle.unit.proofs.answer.Actions.send.Tie as tie
 

@@ -16,7 +16,7 @@ returns c =
 returns-2 : tie.Need-returns-2
 returns-2 c =
     let start = c .before .before .before in
-    c .on-bytes .ensures ∙ ap packed (sym (on-enough tryLimit (start .args .self) (now (start .args .bytes)) (start .args .room) (c .before .if1 .left)))
+    c .apply .ensures ∙ ap packed (sym (on-enough tryLimit (start .args .self) (now (start .args .bytes)) (start .args .room) (c .before .if1 .left)))
 
 pub answer-spec : {M : Type 1} → statement M
 answer-spec = tie.close (tie.spec (λ c κs. search needs) (λ c κs. search needs) returns returns-2)

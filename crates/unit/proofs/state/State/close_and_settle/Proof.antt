@@ -2,8 +2,8 @@
 use borrow.Author.Needs.{needs}
 use mathlib.Core.Path.{ap, _∙_}
 use Rattle.place.specs.Table.{numbers}
-use Rattle.unit.specs.Forms.{pushAll, packed}
-use Rattle.unit.specs.Changes.{settled}
+use Rattle.unit.specs.Forms.{packed}
+use Rattle.unit.specs.Changes.{pushAll, settled}
 use Rattle.unit.proofs.Settling.{packed-made}
 use Rattle.unit.proofs.state.State.close_and_settle.Statement.{statement}
 use Rattle.unit.proofs.state.State.close_and_settle.Tie as tie

@@ -2,7 +2,7 @@
 use borrow.Author.Needs.{needs}
 use mathlib.Core.Path.{sym, ap, _∙_}
 use Rattle.place.specs.Table.{numbers}
-use Rattle.unit.specs.Forms.{pushAll}
+use Rattle.unit.specs.Changes.{pushAll}
 use Rattle.unit.proofs.Settling.{packed-unclosed}
 use Rattle.unit.proofs.state.State.make.Statement.{statement}
 use Rattle.unit.proofs.state.State.make.Tie as tie

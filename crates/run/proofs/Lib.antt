@@ -1,9 +1,0 @@
-pub mod Tallies
-pub mod Takes
-pub mod Applied
-pub mod Going
-pub mod Starting
-pub mod Steps
-pub mod Codes
-pub mod OneAnswer
-pub mod Agreed

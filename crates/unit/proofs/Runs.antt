@@ -1,0 +1,8 @@
+-- The laws of the run, and of what it counts.
+pub mod Tallies
+pub mod Takes
+pub mod Applied
+pub mod Going
+pub mod Starting
+pub mod Steps
+pub mod Codes

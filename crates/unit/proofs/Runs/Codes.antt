@@ -1,0 +1,109 @@
+-- In a run no record is refused with 1, 2, 10 or 11: each step's number is 0 or 3 to 9.
+-- Proves: step-code, steps-codes, run-codes.
+use mathlib.Core.Path.{_≡_, refl, ap, _∙_}
+use mathlib.Core.Bool.{Bool, true, false, cond, _&&_, _||_}
+use mathlib.Core.List.{List, [], _∷_}
+use Prim.Native.Nat.{ℕ, zero, suc, _≤_}
+use native.Mathlib.Omega.{arith}
+use lib.Dec.{eqb, leb}
+use lib.ListN.{length, getD, take, drop, length-drop}
+use borrow.Author.Tests.{leb-true, le-leb}
+use Rattle.record.specs.Records.{bodyOf, fields}
+use Rattle.wire.specs.Refusals as refusal
+use Rattle.record.specs.declared.event.Event.{Event}
+use Rattle.record.specs.declared.event.Reading.the-variants.{Meant, Refused}
+use Rattle.wire.proofs.Tests.{and-both, cond-case, cond-holds}
+use Rattle.unit.specs.States.{sound}
+use Rattle.unit.specs.Steps.{Outcome, step}
+use Rattle.unit.specs.Standings.{Concern}
+use Rattle.unit.specs.OnRecords.{actionRoom, onReading, onRecord}
+use Rattle.unit.specs.declared.state.State.{State}
+use Rattle.unit.proofs.Shapes.{Shape, refuses, notes, closesEvery, orders, calls, turns, shape}
+use Rattle.unit.proofs.Sound.{onRecord-sound}
+use Rattle.unit.specs.Runs.{longestLog, takeOne, onTaken, stops, applies, course, stepsOf, steps, fresh, go, runRefused, run, runCode, allCodes}
+use Rattle.unit.specs.declared.run.Taken.{Taken}
+use Rattle.unit.specs.declared.run.Taken.the-variants.{Whole, Stopped}
+use Rattle.unit.proofs.Runs.Applied.{applied-reading}
+use Rattle.unit.proofs.Runs.Going.{part-reads}
+
+abbrev Fine : Outcome → Type 0
+Fine o = runCode (o .code) ≡ true
+
+-- the numbers with which a step is refused are among those of a run
+refused-fine : (r : ℕ) → refusal.notInForce ≤ r → r ≤ refusal.callFromRiu → runCode r ≡ true
+refused-fine r low high = by (eqb r refusal.accepted)
+  where
+    within : (leb refusal.outOfRange r && leb r refusal.callFromRiu) ≡ true
+    within = and-both _ _ (le-leb refusal.outOfRange r (omega arith)) (le-leb r refusal.callFromRiu high)
+
+    by : (b : Bool) → (b || (leb refusal.outOfRange r && leb r refusal.callFromRiu)) ≡ true
+    by true = refl
+    by false = within
+
+module _ (n : ℕ) (s : State) where
+  code : {e : Event} {c : Concern} {o : Outcome} → Shape n s e c o → Fine o
+  code (refuses r may said) = refused-fine r (may .0) (may .1)
+  code (notes t m within) = refl
+  code (closesEvery t within) = refl
+  code (orders p which m i within ok found) = refl
+  code (calls p i ok rbc found) = refl
+  code (turns p event i found taken) = refl
+
+  -- the number of a step on an event
+  pub step-code : (e : Event) → runCode (step n s e .code) ≡ true
+  step-code e = code (shape n s e)
+
+  fields-code : (kind : ℕ) (bytes : List ℕ) → Fine (onReading n s (fields (bodyOf kind) bytes))
+  fields-code kind bytes =
+      cond-holds (λ r. Fine (onReading n s r)) (bodyOf kind .ranges bytes) (Meant (bodyOf kind .means bytes)) (Refused refusal.outOfRange)
+      (step-code (bodyOf kind .means bytes))
+      refl
+
+-- the steps of a run
+pub steps-codes : (n : ℕ)
+    → 1 ≤ n
+    → (budget : ℕ) (s : State) (log : List ℕ)
+    → sound n s ≡ true
+    → length log ≤ longestLog
+    → allCodes (steps n budget s log) ≡ true
+unfolding course stepsOf allCodes takeOne
+steps-codes n some-try zero s [] good small = refl
+steps-codes n some-try zero s (x ∷ log) good small = refl
+steps-codes n some-try (suc budget) s [] good small = refl
+steps-codes n some-try (suc budget) s (x ∷ log) good small =
+    by (takeOne (x ∷ log)) refl
+    (λ k.
+    steps-codes n some-try budget (onRecord n s (take k (x ∷ log)) actionRoom .state) (drop k (x ∷ log))
+    (onRecord-sound n some-try s (take k (x ∷ log)) actionRoom good)
+    (simp length-drop (omega arith)))
+  where
+    next : ℕ → Outcome
+    next k = onRecord n s (take k (x ∷ log)) actionRoom
+
+    by : (taken : Taken)
+        → takeOne (x ∷ log) ≡ taken
+        → ((k : ℕ) → allCodes (steps n budget (next k .state) (drop k (x ∷ log))) ≡ true)
+        → allCodes (stepsOf (onTaken taken stops (λ k. applies (take k (x ∷ log)) (next k) (course n budget (next k .state) (drop k (x ∷ log)))))) ≡ true
+    by (Stopped stop) e rest = refl
+    by (Whole k) e rest =
+        let bytes = take k (x ∷ log) in
+        let reads = part-reads n some-try (x ∷ log) (fresh s) k (omega arith) small e bytes refl in
+        and-both (runCode (next k .code)) (allCodes (steps n budget (next k .state) (drop k (x ∷ log))))
+        (ap (λ o. runCode (o .code)) (applied-reading n s bytes good (fields (bodyOf (getD bytes 0 0)) bytes) reads) ∙ fields-code n s (getD bytes 0 0) bytes)
+        (rest k)
+
+-- "In every run that is not itself refused": from any state, whatever the log and the budget
+-- promise
+pub run-codes : (n : ℕ)
+    → 1 ≤ n
+    → (s : State) (log : List ℕ) (budget : ℕ)
+    → run n s log budget .code ≡ refusal.accepted
+    → allCodes (steps n budget s log) ≡ true
+unfolding run
+run-codes n some-try s log budget =
+    cond-case (λ r. r .code ≡ refusal.accepted → allCodes (steps n budget s log) ≡ true) (leb (length log) longestLog) (cond (sound n s) (go n budget (fresh s) log) (runRefused refusal.notSound s)) (runRefused refusal.logTooLong s)
+    (λ fits.
+    cond-case (λ r. r .code ≡ refusal.accepted → allCodes (steps n budget s log) ≡ true) (sound n s) (go n budget (fresh s) log) (runRefused refusal.notSound s)
+    (λ good h. steps-codes n some-try budget s log good (leb-true (length log) longestLog fits))
+    (λ bad h. absurd (omega arith)))
+    (λ long h. absurd (omega arith))

@@ -1,0 +1,26 @@
+-- The run by what its two tests showed.
+-- Proves: run-long, run-unsound, run-sound.
+use mathlib.Core.Path.{_≡_}
+use mathlib.Core.Bool.{true, false}
+use mathlib.Core.List.{List}
+use Prim.Native.Nat.{ℕ, _≤_, _<_}
+use lib.ListN.{length}
+use borrow.Author.Tests.{le-leb, lt-leb}
+use Rattle.wire.specs.Refusals.{notSound, logTooLong}
+use Rattle.unit.specs.States.{sound}
+use Rattle.unit.specs.declared.state.State.{State}
+use Rattle.unit.specs.Runs.{longestLog, fresh, go, runRefused, run}
+
+module _ (n : ℕ) (s : State) (log : List ℕ) (budget : ℕ) where
+  pub run-long : longestLog < length log → runRefused logTooLong s ≡ run n s log budget
+  unfolding run
+  run-long long = simp (lt-leb (length log) longestLog long)
+
+  module _ (fits : length log ≤ longestLog) where
+    pub run-unsound : sound n s ≡ false → runRefused notSound s ≡ run n s log budget
+    unfolding run
+    run-unsound bad = simp (le-leb (length log) longestLog fits, bad)
+
+    pub run-sound : sound n s ≡ true → go n budget (fresh s) log ≡ run n s log budget
+    unfolding run
+    run-sound good = simp (le-leb (length log) longestLog fits, good)

@@ -1,0 +1,91 @@
+// The state that a vector gives: 36 bytes, an image's after its kind, sound or not.
+use crate::expected::HEAD_SIZE;
+use crate::expected::PLACE_SIZE;
+use crate::part::rest;
+use crate::part::word;
+use place::limits::Limits;
+use place::phase::Phase;
+use place::place::Direction;
+use place::place::Place;
+use record::partner::Partner;
+use unit::state::Marks;
+use unit::state::State;
+use unit::state::Train;
+use wire::byte::byte_at;
+
+fn phase_in(number: u8, tries: u8) -> Phase {
+    match number {
+        1 => Phase::Connecting(tries),
+        2 => Phase::Contacting(tries),
+        3 => Phase::Open,
+        4 => Phase::Lost(tries),
+        _ => Phase::Ending(tries),
+    }
+}
+
+fn direction_in(number: u8) -> Direction {
+    if number == 0 {
+        Direction::Outgoing
+    } else {
+        Direction::Incoming
+    }
+}
+
+// The place in seven bytes.
+fn place_in(s: &[u8]) -> Place {
+    let phase = byte_at(s, 0);
+    if phase == 0 {
+        return Place::free();
+    }
+    let partner = Partner {
+        kind: byte_at(s, 3),
+        high: byte_at(s, 4),
+        middle: byte_at(s, 5),
+        low: byte_at(s, 6),
+    };
+    Place::held(
+        direction_in(byte_at(s, 1)),
+        phase_in(phase, byte_at(s, 2)),
+        partner,
+    )
+}
+
+// The limits in two bytes.
+pub(crate) fn limits_in(s: &[u8]) -> Limits {
+    Limits {
+        lowest: word(byte_at(s, 0)),
+        highest: word(byte_at(s, 1)),
+    }
+}
+
+fn train_in(s: &[u8]) -> Train {
+    Train {
+        level: word(byte_at(s, 2)),
+        mission: word(byte_at(s, 3)),
+    }
+}
+
+fn marks_in(s: &[u8]) -> Marks {
+    Marks {
+        inside: byte_at(s, 4) == 1,
+        mode: byte_at(s, 5) == 1,
+        manual: byte_at(s, 6) == 1,
+        end: byte_at(s, 7) == 1,
+    }
+}
+
+// The state in 36 bytes.
+pub(crate) fn state_in(s: &[u8]) -> State {
+    let places = rest(s, HEAD_SIZE);
+    State {
+        limits: limits_in(s),
+        train: train_in(s),
+        marks: marks_in(s),
+        places: [
+            place_in(places),
+            place_in(rest(places, PLACE_SIZE)),
+            place_in(rest(places, 2 * PLACE_SIZE)),
+            place_in(rest(places, 3 * PLACE_SIZE)),
+        ],
+    }
+}
