@@ -1,4 +1,9 @@
 pub mod Numbers
 pub mod Pushing
 pub mod Room
+pub mod Sheets
+pub mod Putting
+pub mod Pages
+pub mod Filling
+pub mod Placing
 pub mod OneAnswer

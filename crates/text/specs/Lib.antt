@@ -1,2 +1,5 @@
 pub mod Texts
+pub mod Sheets
+pub mod SheetExample
 pub mod Making
+pub mod Pages

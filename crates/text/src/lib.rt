@@ -5,12 +5,14 @@ ghost use mathlib.Core.List.{[], _∷_};
 ghost use lib.ListN.{length, take, drop};
 ghost use Rattle.wire.specs.Blocks.{blocks};
 ghost use Rattle.text.specs.Texts.{decimal, partnerNumber, actionText, lineText, endText, placed, placedCount};
-ghost use Rattle.text.specs.Making.{texted, withByte, withBytes};
+ghost use Rattle.text.specs.Making.{textRoom, texted, withByte, withBytes};
 use record::partner::Partner;
 use unit::answer::Action;
 use unit::answer::Actions;
 use unit::answer::MOST_ACTIONS;
 use wire::byte::word;
+
+pub mod sheet;
 
 // A text that is being made; the bytes from `used` on are zeros.
 pub struct Text {
@@ -49,7 +51,7 @@ fn partner_number(p: Partner) -> u32
 
 // A number's decimal digits, from the last one to the first.
 fn digits_of(n: u32) -> Digits
-    ensures { λ r. ⌜ (drop (r .start) (r .bytes) ≡ decimal n) × (length (r .bytes) ≡ 10) ⌝ }
+    ensures { λ r. ⌜ (drop (r .start) (r .bytes) ≡ decimal n) × (length (r .bytes) ≡ 10) × (r .start ≤ 10) ⌝ }
 {
     let mut bytes = [0u8; 10];
     let mut i = MOST_DIGITS;
@@ -89,19 +91,27 @@ impl Text {
         }
     }
 
+    // These characters, one after the other.
+    fn words(self, words: &[u8]) -> Text
+        ensures { λ r. ⌜ r ≡ withBytes self (now (words .entry)) ⌝ }
+    {
+        let mut text = self;
+        let mut i = 0;
+        while i < words.len() {
+            text = text.push(words[i]);
+            i += 1;
+        }
+        text
+    }
+
     // A number in decimal.
     fn number(self, n: u32) -> Text
         ensures { λ r. ⌜ r ≡ withBytes self (decimal n) ⌝ }
     {
         let digits = digits_of(n);
-        let mut text = self;
-        let mut i = digits.start;
-        while i < MOST_DIGITS {
-            let digit = digits.bytes[i];
-            text = text.push(digit);
-            i += 1;
-        }
-        text
+        let bytes = digits.bytes;
+        let start = digits.start;
+        self.words(&bytes[start..])
     }
 
     // A character and then a number.
@@ -160,6 +170,18 @@ impl Text {
         }
         used
     }
+}
+
+// Puts these characters to the front of a buffer that has room for them, and answers how many they are; else 0, and nothing is written.
+pub(crate) fn words_into(buffer: &mut [u8], words: &[u8]) -> usize
+    requires { ⌜ length (now words) ≤ textRoom ⌝ }
+    ensures { λ r.
+        ⌜ (r ≡ placedCount (now (words .entry)) (length (now (buffer .entry))))
+        × (now (buffer .exit)
+        ≡ placed (now (words .entry)) (now (buffer .entry))) ⌝ }
+{
+    let text = Text::empty().words(words);
+    text.place(buffer)
 }
 
 fn line(number: u32, kind: u8, code: u8, actions: Actions) -> Text

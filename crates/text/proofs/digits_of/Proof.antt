@@ -22,7 +22,7 @@ loop-again : tie.Need-loop-again Inv-loop μ-loop
 loop-again c = let less = rest-less (c .before .loop .rest) (c .before .loop .i) (c .before .loop .inv .3) (c .if1 .left) in (less .0, omega arith, simp length-set (c .before .loop .inv .2), less .1, digit-more (c .before .before .args .n) (c .before .loop .rest) (c .before .loop .i) (c .before .loop .bytes) (c .before .loop .inv .4) (c .before .loop .inv .0) (omega (arith, c .before .loop .inv .1, c .before .loop .inv .2)) (c .if1 .left))
 
 returns : tie.Need-returns Inv-loop μ-loop
-returns c = (digit-last (c .before .before .args .n) (c .before .loop .rest) (c .before .loop .i) (c .before .loop .bytes) (c .before .loop .inv .4) (c .before .loop .inv .0) (omega (arith, c .before .loop .inv .1, c .before .loop .inv .2)) (c .if1 .taken), simp length-set (c .before .loop .inv .2))
+returns c = (digit-last (c .before .before .args .n) (c .before .loop .rest) (c .before .loop .i) (c .before .loop .bytes) (c .before .loop .inv .4) (c .before .loop .inv .0) (omega (arith, c .before .loop .inv .1, c .before .loop .inv .2)) (c .if1 .taken), simp length-set (c .before .loop .inv .2), omega arith)
 
 pub digits-of-spec : {M : Type 1} → statement M
 digits-of-spec = tie.close (tie.spec Inv-loop μ-loop loop-holds (λ c. omega arith) (λ c. omega arith) (λ c. omega arith) (λ c. omega arith) (λ c. omega arith) loop-again returns)

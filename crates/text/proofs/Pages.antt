@@ -1,0 +1,150 @@
+-- A sheet while it is written: the line of one more record, and what is still to come.
+-- Proves: next-room, next-put, next-page, whole-part, to-come-stop, to-come-next.
+use mathlib.Core.Path.{_≡_, refl, sym, ap, ap₂, _∙_}
+use mathlib.Core.List.{List, [], _∷_, _++_}
+use Prim.Native.Nat.{ℕ, zero, suc, _+_, _-_, _≤_, _<_}
+use native.Mathlib.Omega.{arith}
+use lib.ListN.{length, take, drop, length-drop}
+use lib.Seq.{drop-drop, length-take-le}
+use borrow.Rule.Slice.PartMut.{putMid}
+use Rattle.wire.specs.Bytes.{byte}
+use Rattle.place.specs.Places.{tryLimit}
+use Rattle.unit.specs.Forms.{packed}
+use Rattle.unit.specs.OnRecords.{actionRoom, applied, onRecord}
+use Rattle.unit.specs.Runs.{nothingLeft, takeOne, stops, applies, course}
+use Rattle.unit.specs.declared.answer.Answer.{Answer}
+use Rattle.unit.specs.declared.state.State.{State}
+use Rattle.unit.specs.declared.run.Taken.the-variants.{Whole, Stopped}
+use Rattle.unit.proofs.Few.{onRecord-few}
+use Rattle.unit.proofs.Written.{listed-take}
+use Rattle.unit.proofs.Runs.Going.{whole-ok}
+use Rattle.text.specs.Texts.{lineText, endText, placed, placedCount}
+use Rattle.text.specs.Making.{textRoom}
+use Rattle.text.specs.Sheets.{mostInput, sheetBudget, courseText}
+use Rattle.text.specs.Pages.{putAt, given, nextLine, nextPage, toCome}
+use Rattle.text.specs.declared.sheet.Page.{Page}
+use Rattle.text.proofs.Room.{line-room}
+use Rattle.text.proofs.Putting.{put-part}
+
+-- the line of a record has room
+pub next-room : (p : Page) (bytes : List ℕ) → length (nextLine p bytes) ≤ textRoom
+unfolding nextLine
+next-room p bytes =
+    let o = given p bytes in
+    line-room (p .number + 1) (byte bytes 0) (o .code) (o .actions) (onRecord-few tryLimit (p .state) bytes actionRoom)
+
+-- the line that the answer to a record gives, and the sheet with it
+module _ (p : Page) (bytes : List ℕ) (answer : Answer) (made : answer ≡ packed (applied tryLimit (p .state) bytes)) where
+  is-given : answer ≡ packed (given p bytes)
+  unfolding onRecord
+  is-given = made
+
+  next-line : (kind : ℕ)
+      → kind ≡ byte bytes 0
+      → lineText (p .number + 1) kind (answer .code) (take (answer .actions .count) (answer .actions .items)) ≡ nextLine p bytes
+  unfolding nextLine packed
+  next-line kind first =
+      let o = given p bytes in
+      ap₂ (λ k (a : Answer). lineText (p .number + 1) k (a .code) (take (a .actions .count) (a .actions .items))) first is-given
+      ∙ ap (lineText (p .number + 1) (byte bytes 0) (o .code))
+      (listed-take (o .actions) (onRecord-few tryLimit (p .state) bytes actionRoom))
+
+  -- put after the others
+  pub next-put : (kind : ℕ)
+      → kind ≡ byte bytes 0
+      → (buffer : List ℕ)
+      → p .used + textRoom ≤ length buffer
+      → (r : ℕ) (after : List ℕ)
+      → (r
+      ≡ placedCount (lineText (p .number + 1) kind (answer .code) (take (answer .actions .count) (answer .actions .items)))
+      (length (take (length buffer - p .used) (drop (p .used) buffer))))
+      × (after
+      ≡ placed (lineText (p .number + 1) kind (answer .code) (take (answer .actions .count) (answer .actions .items)))
+      (take (length buffer - p .used) (drop (p .used) buffer)))
+      → (r ≡ length (nextLine p bytes))
+      × (putMid (p .used) (length buffer - p .used) buffer after ≡ putAt (nextLine p bytes) (p .used) buffer)
+  next-put kind first buffer room r after placing =
+      let line = next-line kind first in
+      let part = take (length buffer - p .used) (drop (p .used) buffer) in
+      put-part (nextLine p bytes) buffer (p .used) (omega (arith, room, next-room p bytes)) r after
+      (placing .0 ∙ ap (λ l. placedCount l (length part)) line, placing .1 ∙ ap (λ l. placed l part) line)
+
+  pub next-page : (r : ℕ)
+      → r ≡ length (nextLine p bytes)
+      → record { state = answer .state; at = p .at + length bytes; number = p .number + 1; used = p .used + r } ≡ nextPage p bytes
+  unfolding nextPage packed
+  next-page r size = λ i.
+      record { state = is-given i .state; at = p .at + length bytes; number = p .number + 1; used = p .used + size i }
+
+-- a budget of at least as many records as there are bytes is not used up
+course-stop : (n budget : ℕ) (s : State) (rest : List ℕ) (stop : ℕ)
+    → length rest ≤ budget
+    → takeOne rest ≡ Stopped stop
+    → course n budget s rest ≡ stops stop
+unfolding course takeOne
+course-stop n zero s [] stop few e = let same : nothingLeft ≡ stop = cc in ap stops same
+course-stop n zero s (kind ∷ rest) stop few e = absurd (omega arith)
+course-stop n (suc budget) s rest stop few e = rw e refl
+
+course-step : (n budget : ℕ) (s : State) (rest : List ℕ) (k : ℕ)
+    → 0 < length rest
+    → length rest ≤ budget
+    → takeOne rest ≡ Whole k
+    → course n budget s rest
+    ≡ applies (take k rest) (onRecord n s (take k rest) actionRoom)
+    (course n (budget - 1) (onRecord n s (take k rest) actionRoom .state) (drop k rest))
+unfolding course
+course-step n zero s rest k some few e = absurd (omega arith)
+course-step n (suc budget) s rest k some few e =
+    let same : budget ≡ suc budget - 1 = omega arith in
+    let o = onRecord n s (take k rest) actionRoom in
+    rw e (ap (λ b. applies (take k rest) o (course n b (o .state) (drop k rest))) same)
+
+-- where a whole record stands, something is left
+whole-some : (rest : List ℕ) (k : ℕ) → takeOne rest ≡ Whole k → 0 < length rest
+unfolding takeOne
+whole-some [] k e = absurd (let z : _≡_ {A = ℕ} 0 1 = cc in omega arith)
+whole-some (kind ∷ rest) k e = omega arith
+
+module _ (p : Page) (input : List ℕ) (short : length input ≤ mostInput) (counted : p .number ≤ p .at) where
+  rest : List ℕ
+  rest = drop (p .at) input
+
+  rest-few : length rest ≤ sheetBudget - p .number
+  unfolding rest
+  rest-few = simp length-drop (omega arith)
+
+  -- at a stop the last line is to come
+  pub to-come-stop : (stop : ℕ) → takeOne (drop (p .at) input) ≡ Stopped stop → toCome p input ≡ endText stop (p .number)
+  unfolding toCome courseText rest
+  to-come-stop stop e =
+      ap (courseText (p .number)) (course-stop tryLimit (sheetBudget - p .number) (p .state) rest stop rest-few e)
+
+  module _ (k : ℕ) (e : takeOne (drop (p .at) input) ≡ Whole k) where
+    below : p .at < length input
+    below = omega (arith, length-drop (p .at) input, whole-some (drop (p .at) input) k e)
+
+    -- a whole record has a byte at least, and all of it stands there
+    pub whole-part : (1 ≤ k) × (p .at + k ≤ length input) × (length (take k (drop (p .at) input)) ≡ k)
+    whole-part =
+        let ok = whole-ok input (p .at) k below e in (
+          ok .1,
+          omega (arith, ok .2, below),
+          length-take-le k (drop (p .at) input) (omega (arith, ok .2, length-drop (p .at) input)),
+        )
+
+    -- at a whole record its line is to come, and then what comes after it
+    pub to-come-next : (bytes : List ℕ)
+        → bytes ≡ take k (drop (p .at) input)
+        → toCome p input ≡ nextLine p bytes ++ toCome (nextPage p bytes) input
+    unfolding toCome courseText rest nextLine nextPage
+    to-come-next bytes lent =
+        let part = take k rest in
+        let o = given p part in
+        let size = whole-part .2 in
+        let left : sheetBudget - p .number - 1 ≡ sheetBudget - (p .number + 1) = omega arith in
+        let after = drop-drop k (p .at) input ∙ ap (λ m. drop (p .at + m) input) (sym size) in
+        ap (courseText (p .number))
+        (course-step tryLimit (sheetBudget - p .number) (p .state) rest k (whole-some rest k e) rest-few e)
+        ∙ ap₂ (λ b l. nextLine p part ++ courseText (p .number + 1) (course tryLimit b (o .state) l)) left after
+        ∙ ap (λ l. nextLine p l ++ toCome (nextPage p l) input) (sym lent)
