@@ -1,4 +1,4 @@
-// Prints the sheet of the log on standard input.
+// The program `sheet`: a log from standard input, its sheet to standard output.
 fn main() {
-    sheet_body::sheet();
+    sheet_body::sheet(libc::STDIN_FILENO);
 }

@@ -1,4 +1,9 @@
-// All vectors of the independent model, judged.
+// All vectors of the independent model, judged; then some of which four are spoilt (a code, a place, a phase, and a place where 4 is
+// due), so that the judge has to name these and no other; then an image, held to bytes that were written by hand.
+mod mixed;
+
 fn main() {
     vectors::file::judge_file(b"vectors.bin");
+    vectors::file::judge_file(b"spoilt.bin");
+    mixed::image_of_mixed();
 }

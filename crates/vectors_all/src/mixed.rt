@@ -1,4 +1,4 @@
-// Prints the image of a mixed state in hex, and what reading it answers.
+// The image of a mixed state, to be held to bytes that were written by hand.
 use image::read::read_image;
 use image::write::write_image;
 use libc::STDOUT_FILENO;
@@ -62,7 +62,8 @@ fn print_image(image: &[u8]) {
     }
 }
 
-fn main() {
+// Prints the image of a mixed state in hex, and the numbers that writing and reading it answer.
+pub(crate) fn image_of_mixed() {
     let mut buffer = [0u8; 37];
     let stored = write_image(mixed(), &mut buffer);
     print_image(&buffer);

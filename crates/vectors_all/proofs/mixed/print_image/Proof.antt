@@ -2,8 +2,8 @@
 use borrow.Author.Needs.{needs}
 use Prim.Native.Nat.{_-_}
 use native.Mathlib.Omega.{arith}
-use Rattle.image_mixed.proofs.print_image.Statement.{statement}
-use Rattle.image_mixed.proofs.print_image.Tie as tie
+use Rattle.vectors_all.proofs.mixed.print_image.Statement.{statement}
+use Rattle.vectors_all.proofs.mixed.print_image.Tie as tie
 
 abbrev Inv-loop : tie.InvT-loop
 Inv-loop image i₀ i = Unit
