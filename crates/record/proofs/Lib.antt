@@ -3,3 +3,4 @@ pub mod Ranges
 pub mod ByKind
 pub mod OneAnswer
 pub mod Named
+pub mod Takes

@@ -1,11 +1,12 @@
 -- No second answer satisfies the contract of a public function: a line for each of this crate's, over the contract as the checker names it.
--- Proves: partner-same-once, partner-is-rbc-once, partner-in-range-once, length-of-once, read-once.
+-- Proves: partner-same-once, partner-is-rbc-once, partner-in-range-once, read-once, take-one-once, take-once.
 use mathlib.Core.Path.{_≡_, sym, _∙_}
 use Rattle.record.proofs.partner.Partner.same.Reads as partner-same
 use Rattle.record.proofs.partner.Partner.is_rbc.Reads as partner-is-rbc
 use Rattle.record.proofs.partner.Partner.in_range.Reads as partner-in-range
-use Rattle.record.proofs.read.length_of.Reads as length-of
 use Rattle.record.proofs.read.read.Reads as read
+use Rattle.record.proofs.take.take_one.Reads as take-one
+use Rattle.record.proofs.take.take.Reads as take
 
 pub partner-same-once : (κ : _) (self : _) (other : _) (r₁ : _) (r₂ : _)
     → partner-same.Post κ (self, (other, tt)) r₁ (self, (other, tt))
@@ -25,14 +26,20 @@ pub partner-in-range-once : (κ : _) (self : _) (r₁ : _) (r₂ : _)
     → r₁ ≡ r₂
 partner-in-range-once κ self r₁ r₂ p q = p ∙ sym q
 
-pub length-of-once : (κ : _) (kind : _) (r₁ : _) (r₂ : _)
-    → length-of.Post κ (kind, tt) r₁ (kind, tt)
-    → length-of.Post κ (kind, tt) r₂ (kind, tt)
-    → r₁ ≡ r₂
-length-of-once κ kind r₁ r₂ p q = p ∙ sym q
-
 pub read-once : (κ : _) (s : _) (r₁ : _) (r₂ : _)
     → read.Post κ (s, tt) r₁ (s, tt)
     → read.Post κ (s, tt) r₂ (s, tt)
     → r₁ ≡ r₂
 read-once κ s r₁ r₂ p q = p ∙ sym q
+
+pub take-one-once : (κ : _) (log : _) (at : _) (r₁ : _) (r₂ : _)
+    → take-one.Post κ (log, (at, tt)) r₁ (log, (at, tt))
+    → take-one.Post κ (log, (at, tt)) r₂ (log, (at, tt))
+    → r₁ ≡ r₂
+take-one-once κ log at r₁ r₂ p q = p ∙ sym q
+
+pub take-once : (κ : _) (log : _) (r₁ : _) (r₂ : _)
+    → take.Post κ (log, tt) r₁ (log, tt)
+    → take.Post κ (log, tt) r₂ (log, tt)
+    → r₁ ≡ r₂
+take-once κ log r₁ r₂ p q = p ∙ sym q

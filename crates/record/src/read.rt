@@ -2,7 +2,7 @@
 ghost use mathlib.Core.Path.{_≡_};
 ghost use Prim.Native.Nat.{_≤_};
 ghost use mathlib.Core.Bool.{cond, _&&_};
-ghost use lib.ListN.{length, getD};
+ghost use lib.ListN.{length};
 ghost use Rattle.record.specs.Partners.{partnerOk};
 ghost use Rattle.record.specs.Records.{lengthOf, partnerIn, causeOf, orderOk, orderMeans, messageOk, messageMeans, fields};
 ghost use Rattle.record.specs.Records.{bodyOf, levelBody, missionBody, holeBody, orderBody, partnerBody, endAllBody, messageBody, reading};
@@ -66,7 +66,7 @@ fn wide(n: u8) -> usize
 }
 
 // The length of a record of this kind; 0 where no kind has that number.
-pub fn length_of(kind: u8) -> usize
+pub(crate) fn length_of(kind: u8) -> usize
     ensures { λ r. ⌜ r ≡ lengthOf kind ⌝ }
 {
     if kind <= KIND_MESSAGE {
@@ -223,7 +223,7 @@ fn message_body(s: &[u8]) -> Reading
 }
 
 // What the fields of a record of this kind mean; refusal 3 where one is outside its range.
-fn fields_of(kind: u8, s: &[u8]) -> Reading
+pub(crate) fn fields_of(kind: u8, s: &[u8]) -> Reading
     requires { ⌜ lengthOf kind ≤ length (now s) ⌝ }
     ensures { λ r. ⌜ r ≡ fields (bodyOf kind) (now (s .entry)) ⌝ }
 {

@@ -1,11 +1,11 @@
 // Steps on bytes through the log on standard input, with one buffer of 20 bytes for all records, and prints the records, those refused,
-// the actions, and then the buffer's bytes as they are.
+// the actions, and then the buffer's bytes as they are. Of a log over 1,048,576 bytes it reads as many.
 use libc::STDIN_FILENO;
 use libc::STDOUT_FILENO;
 use place::limits::Limits;
+use record::take::Taken;
+use record::take::take;
 use std::num::wrapping_add_u64;
-use unit::run::Taken;
-use unit::run::take_one;
 use unit::start::cold_start;
 use unit::state::State;
 use wire::refusal::ACCEPTED;
@@ -41,12 +41,12 @@ impl Walk {
     // Steps on the record that stands next, if one stands whole.
     fn next(self, log: &[u8], actions: &mut [u8]) -> Walk {
         let at = self.at;
-        let Taken::Whole(length) = take_one(log, at) else {
-            return self.stopped();
-        };
         if at > log.len() {
             return self.stopped();
         }
+        let Taken::Whole { length, reading: _ } = take(&log[at..]) else {
+            return self.stopped();
+        };
         if log.len() - at < length {
             return self.stopped();
         }

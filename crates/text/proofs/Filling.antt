@@ -2,12 +2,14 @@
 -- Defines: Filling.
 -- Proves: filling-end, end-keeps, filling-less, line-follows, filling-next.
 use mathlib.Core.Path.{_≡_, sym, ap, subst, _∙_}
+use mathlib.Core.Logic.{_⊎_}
 use mathlib.Core.List.{List, _++_}
 use Prim.Native.Nat.{ℕ, _+_, _-_, _≤_, _<_}
 use native.Mathlib.Omega.{arith}
 use lib.ListN.{length, take, drop, length-append}
-use Rattle.unit.specs.Runs.{takeOne}
-use Rattle.unit.specs.declared.run.Taken.the-variants.{Whole, Stopped}
+use Rattle.record.specs.Takes.{takeOne}
+use Rattle.record.specs.declared.event.Reading.{Reading}
+use Rattle.record.specs.declared.take.Taken.the-variants.{Whole, Stopped, Refused}
 use Rattle.text.specs.Texts.{endText}
 use Rattle.text.specs.Sheets.{mostInput}
 use Rattle.text.specs.Pages.{putAt, nextLine, nextPage, toCome, Ready, Follows}
@@ -29,7 +31,7 @@ module _ (input : List ℕ) (short : length input ≤ mostInput) (buffer₀ : Li
     (buffer : List ℕ) (p : Page) (so-far : Filling input buffer₀ p₀ buffer p) where
   -- at a stop
   pub filling-end : (stop : ℕ)
-      → takeOne (drop (p .at) input) ≡ Stopped stop
+      → (takeOne (drop (p .at) input) ≡ Stopped stop) ⊎ (takeOne (drop (p .at) input) ≡ Refused stop)
       → (p .used + length (endText stop (p .number)) ≡ p₀ .used + length (toCome p₀ input))
       × (putAt (endText stop (p .number)) (p .used) buffer ≡ putAt (toCome p₀ input) (p₀ .used) buffer₀)
   filling-end stop e =
@@ -41,9 +43,9 @@ module _ (input : List ℕ) (short : length input ≤ mostInput) (buffer₀ : Li
   end-keeps stop =
       put-length (endText stop (p .number)) buffer (p .used) (omega (arith, so-far .0, end-room stop (p .number))) ∙ so-far .2
 
-  module _ (k : ℕ) (e : takeOne (drop (p .at) input) ≡ Whole k) (bytes : List ℕ) (lent : bytes ≡ take k (drop (p .at) input)) where
+  module _ (k : ℕ) (r : Reading) (e : takeOne (drop (p .at) input) ≡ Whole k r) (bytes : List ℕ) (lent : bytes ≡ take k (drop (p .at) input)) where
     part : (1 ≤ k) × (p .at + k ≤ length input) × (length (take k (drop (p .at) input)) ≡ k)
-    part = whole-part p input short (so-far .0 .1) k e
+    part = whole-part p input short (so-far .0 .1) k r e
 
     long : length bytes ≡ k
     long = ap length lent ∙ part .2
@@ -68,7 +70,7 @@ module _ (input : List ℕ) (short : length input ≤ mostInput) (buffer₀ : Li
         let line = nextLine p bytes in
         let rest = toCome (nextPage p bytes) input in
         let kept = put-length line buffer (p .used) line-room in
-        let comes = to-come-next p input short (so-far .0 .1) k e bytes lent in
+        let comes = to-come-next p input short (so-far .0 .1) k r e bytes lent in
         let few = next-room p bytes in
         let sum : p .used + length (line ++ rest) ≡ p .used + length line + length rest = simp length-append (omega arith) in (
           (

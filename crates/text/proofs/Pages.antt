@@ -1,6 +1,7 @@
 -- A sheet while it is written: the line of one more record, and what is still to come.
 -- Proves: next-room, next-put, next-page, whole-part, to-come-stop, to-come-next.
 use mathlib.Core.Path.{_≡_, refl, sym, ap, ap₂, _∙_}
+use mathlib.Core.Logic.{_⊎_, inl, inr}
 use mathlib.Core.List.{List, [], _∷_, _++_}
 use Prim.Native.Nat.{ℕ, zero, suc, _+_, _-_, _≤_, _<_}
 use native.Mathlib.Omega.{arith}
@@ -11,15 +12,18 @@ use Rattle.wire.specs.Bytes.{byte}
 use Rattle.place.specs.Places.{tryLimit}
 use Rattle.unit.specs.Forms.{packed}
 use Rattle.unit.specs.OnRecords.{actionRoom, applied, onRecord}
-use Rattle.unit.specs.Runs.{nothingLeft, takeOne, stops, applies, course}
+use Rattle.record.specs.Takes.{nothingLeft, longestLog, takeOne}
+use Rattle.unit.specs.Runs.{stops, applies, course}
 use Rattle.unit.specs.declared.answer.Answer.{Answer}
 use Rattle.unit.specs.declared.state.State.{State}
-use Rattle.unit.specs.declared.run.Taken.the-variants.{Whole, Stopped}
+use Rattle.record.specs.declared.event.Reading.{Reading}
+use Rattle.record.specs.declared.take.Taken.the-variants.{Whole, Stopped, Refused}
 use Rattle.unit.proofs.Few.{onRecord-few}
 use Rattle.unit.proofs.Written.{listed-take}
+use Rattle.record.proofs.Takes.{taken-short}
 use Rattle.unit.proofs.Runs.Going.{whole-ok}
-use Rattle.text.specs.Texts.{lineText, endText, placed, placedCount}
-use Rattle.text.specs.Making.{textRoom}
+use Rattle.text.specs.Texts.{lineText, endText, placed}
+use Rattle.text.specs.Making.{textRoom, placedCount}
 use Rattle.text.specs.Sheets.{mostInput, sheetBudget, courseText}
 use Rattle.text.specs.Pages.{putAt, given, nextLine, nextPage, toCome}
 use Rattle.text.specs.declared.sheet.Page.{Page}
@@ -79,32 +83,36 @@ module _ (p : Page) (bytes : List ℕ) (answer : Answer) (made : answer ≡ pack
 -- a budget of at least as many records as there are bytes is not used up
 course-stop : (n budget : ℕ) (s : State) (rest : List ℕ) (stop : ℕ)
     → length rest ≤ budget
-    → takeOne rest ≡ Stopped stop
+    → length rest ≤ longestLog
+    → (takeOne rest ≡ Stopped stop) ⊎ (takeOne rest ≡ Refused stop)
     → course n budget s rest ≡ stops stop
 unfolding course takeOne
-course-stop n zero s [] stop few e = let same : nothingLeft ≡ stop = cc in ap stops same
-course-stop n zero s (kind ∷ rest) stop few e = absurd (omega arith)
-course-stop n (suc budget) s rest stop few e = rw e refl
+course-stop n zero s [] stop few small (inl e) = let same : nothingLeft ≡ stop = cc in ap stops same
+course-stop n zero s [] stop few small (inr e) = absurd (let z : _≡_ {A = ℕ} 0 1 = cc in omega arith)
+course-stop n zero s (kind ∷ rest) stop few small e = absurd (omega arith)
+course-stop n (suc budget) s rest stop few small (inl e) = rw (taken-short rest small ∙ e) refl
+course-stop n (suc budget) s rest stop few small (inr e) = rw (taken-short rest small ∙ e) refl
 
-course-step : (n budget : ℕ) (s : State) (rest : List ℕ) (k : ℕ)
+course-step : (n budget : ℕ) (s : State) (rest : List ℕ) (k : ℕ) (r : Reading)
     → 0 < length rest
     → length rest ≤ budget
-    → takeOne rest ≡ Whole k
+    → length rest ≤ longestLog
+    → takeOne rest ≡ Whole k r
     → course n budget s rest
     ≡ applies (take k rest) (onRecord n s (take k rest) actionRoom)
     (course n (budget - 1) (onRecord n s (take k rest) actionRoom .state) (drop k rest))
 unfolding course
-course-step n zero s rest k some few e = absurd (omega arith)
-course-step n (suc budget) s rest k some few e =
+course-step n zero s rest k r some few small e = absurd (omega arith)
+course-step n (suc budget) s rest k r some few small e =
     let same : budget ≡ suc budget - 1 = omega arith in
     let o = onRecord n s (take k rest) actionRoom in
-    rw e (ap (λ b. applies (take k rest) o (course n b (o .state) (drop k rest))) same)
+    rw (taken-short rest small ∙ e) (ap (λ b. applies (take k rest) o (course n b (o .state) (drop k rest))) same)
 
 -- where a whole record stands, something is left
-whole-some : (rest : List ℕ) (k : ℕ) → takeOne rest ≡ Whole k → 0 < length rest
+whole-some : (rest : List ℕ) (k : ℕ) (r : Reading) → takeOne rest ≡ Whole k r → 0 < length rest
 unfolding takeOne
-whole-some [] k e = absurd (let z : _≡_ {A = ℕ} 0 1 = cc in omega arith)
-whole-some (kind ∷ rest) k e = omega arith
+whole-some [] k r e = absurd (let z : _≡_ {A = ℕ} 0 1 = cc in omega arith)
+whole-some (kind ∷ rest) k r e = omega arith
 
 module _ (p : Page) (input : List ℕ) (short : length input ≤ mostInput) (counted : p .number ≤ p .at) where
   rest : List ℕ
@@ -114,20 +122,26 @@ module _ (p : Page) (input : List ℕ) (short : length input ≤ mostInput) (cou
   unfolding rest
   rest-few = simp length-drop (omega arith)
 
+  rest-short : length rest ≤ longestLog
+  unfolding rest
+  rest-short = simp length-drop (omega arith)
+
   -- at a stop the last line is to come
-  pub to-come-stop : (stop : ℕ) → takeOne (drop (p .at) input) ≡ Stopped stop → toCome p input ≡ endText stop (p .number)
+  pub to-come-stop : (stop : ℕ)
+      → (takeOne (drop (p .at) input) ≡ Stopped stop) ⊎ (takeOne (drop (p .at) input) ≡ Refused stop)
+      → toCome p input ≡ endText stop (p .number)
   unfolding toCome courseText rest
   to-come-stop stop e =
-      ap (courseText (p .number)) (course-stop tryLimit (sheetBudget - p .number) (p .state) rest stop rest-few e)
+      ap (courseText (p .number)) (course-stop tryLimit (sheetBudget - p .number) (p .state) rest stop rest-few rest-short e)
 
-  module _ (k : ℕ) (e : takeOne (drop (p .at) input) ≡ Whole k) where
+  module _ (k : ℕ) (r : Reading) (e : takeOne (drop (p .at) input) ≡ Whole k r) where
     below : p .at < length input
-    below = omega (arith, length-drop (p .at) input, whole-some (drop (p .at) input) k e)
+    below = omega (arith, length-drop (p .at) input, whole-some (drop (p .at) input) k r e)
 
     -- a whole record has a byte at least, and all of it stands there
     pub whole-part : (1 ≤ k) × (p .at + k ≤ length input) × (length (take k (drop (p .at) input)) ≡ k)
     whole-part =
-        let ok = whole-ok input (p .at) k below e in (
+        let ok = whole-ok input (p .at) k r below e in (
           ok .1,
           omega (arith, ok .2, below),
           length-take-le k (drop (p .at) input) (omega (arith, ok .2, length-drop (p .at) input)),
@@ -145,6 +159,6 @@ module _ (p : Page) (input : List ℕ) (short : length input ≤ mostInput) (cou
         let left : sheetBudget - p .number - 1 ≡ sheetBudget - (p .number + 1) = omega arith in
         let after = drop-drop k (p .at) input ∙ ap (λ m. drop (p .at + m) input) (sym size) in
         ap (courseText (p .number))
-        (course-step tryLimit (sheetBudget - p .number) (p .state) rest k (whole-some rest k e) rest-few e)
+        (course-step tryLimit (sheetBudget - p .number) (p .state) rest k r (whole-some rest k r e) rest-few rest-short e)
         ∙ ap₂ (λ b l. nextLine p part ++ courseText (p .number + 1) (course tryLimit b (o .state) l)) left after
         ∙ ap (λ l. nextLine p l ++ toCome (nextPage p l) input) (sym lent)

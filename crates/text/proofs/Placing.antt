@@ -9,7 +9,8 @@ use lib.ListN.{length, length-append}
 use borrow.Author.Tests.{le-leb, lt-leb}
 use Rattle.unit.specs.States.{coldStart}
 use Rattle.unit.specs.declared.state.State.{State}
-use Rattle.text.specs.Texts.{placed, placedCount}
+use Rattle.text.specs.Texts.{placed}
+use Rattle.text.specs.Making.{placedCount}
 use Rattle.text.specs.Sheets.{headerText, tooLongText, mostInput, sheetLimits, sheetText, sheetRoom, sheetCount, sheetPlaced}
 use Rattle.text.specs.Pages.{putAt, toCome}
 use Rattle.text.specs.declared.sheet.Page.{Page}

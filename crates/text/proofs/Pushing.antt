@@ -13,8 +13,8 @@ use Rattle.wire.specs.Blocks.{blocks}
 use Rattle.wire.proofs.Padded.{padded-push, padded-take}
 use Rattle.unit.specs.Forms.{noAction}
 use Rattle.unit.specs.declared.answer.Action.{Action}
-use Rattle.text.specs.Texts.{actionText, placed, placedCount}
-use Rattle.text.specs.Making.{textRoom, texted, withByte, withBytes}
+use Rattle.text.specs.Texts.{actionText, placed}
+use Rattle.text.specs.Making.{textRoom, texted, withByte, withBytes, placedCount}
 use Rattle.text.specs.declared.Text.{Text}
 
 pub pushes-append : (t : Text) (xs ys : List ℕ) → withBytes t (xs ++ ys) ≡ withBytes (withBytes t xs) ys

@@ -9,7 +9,8 @@ use lib.ListN.{length, take, drop, length-append, length-drop, drop-of-length-le
 use lib.Seq.{take-all, take-at, drop-at, drop-drop, length-take-le}
 use borrow.Author.Tests.{le-leb}
 use borrow.Rule.Slice.PartMut.{putMid}
-use Rattle.text.specs.Texts.{placed, placedCount}
+use Rattle.text.specs.Texts.{placed}
+use Rattle.text.specs.Making.{placedCount}
 use Rattle.text.specs.Pages.{putAt}
 
 -- a text put to the front of the part from a place on is put at that place

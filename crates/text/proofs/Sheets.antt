@@ -16,10 +16,11 @@ use Rattle.place.specs.Table.{turn}
 use Rattle.unit.specs.States.{first, seek, placesOk, sound, cold, coldStart, some}
 use Rattle.unit.specs.Steps.{closed, closingActions, step}
 use Rattle.unit.specs.OnRecords.{actionRoom, onRecord}
-use Rattle.unit.specs.Runs.{takeOne, course}
+use Rattle.record.specs.Takes.{takeOne, taken}
+use Rattle.unit.specs.Runs.{course}
 use Rattle.unit.specs.declared.state.State.{State}
-use Rattle.unit.specs.declared.run.Taken.{Taken}
-use Rattle.unit.specs.declared.run.Taken.the-variants.{Whole, Stopped}
+use Rattle.record.specs.declared.take.Taken.{Taken}
+use Rattle.record.specs.declared.take.Taken.the-variants.{Whole, Stopped, Refused}
 use Rattle.unit.proofs.Few.{onRecord-few}
 use Rattle.text.specs.Texts.{digits, actionText, lineText, endText}
 use Rattle.text.specs.Making.{textRoom}
@@ -34,14 +35,15 @@ pub course-fits : (n budget : ℕ) (s : State) (log : List ℕ) (read : ℕ)
 unfolding course courseText
 course-fits n zero s [] read = omega (arith, end-room 0 read)
 course-fits n zero s (kind ∷ rest) read = omega (arith, end-room 1 read)
-course-fits n (suc budget) s log read = by (takeOne log) (course-fits n budget) refl
+course-fits n (suc budget) s log read = by (taken log) (course-fits n budget) refl
   where
     by : (t : Taken)
         → ((s : State) (log : List ℕ) (read : ℕ) → length (courseText read (course n budget s log)) ≤ textRoom * suc budget)
-        → takeOne log ≡ t
+        → taken log ≡ t
         → length (courseText read (course n (suc budget) s log)) ≤ textRoom * suc (suc budget)
     by (Stopped stop) rest-fits e = rw e (omega (arith, end-room stop read))
-    by (Whole k) rest-fits e =
+    by (Refused r) rest-fits e = rw e (omega (arith, end-room r read))
+    by (Whole k r) rest-fits e =
         let o = onRecord n s (take k log) actionRoom in
         let line-fits = line-room (read + 1) (byte (take k log) 0) (o .code) (o .actions) (onRecord-few n s (take k log) actionRoom) in
         let more = rest-fits (o .state) (drop k log) (read + 1) in
@@ -68,6 +70,6 @@ count-fits input room r is =
 
 -- promise
 pub sheet-example : sheetText exampleInput ≡ exampleText
-unfolding reading turn first seek placesOk sound cold coldStart closed closingActions step onRecord some takeOne course
+unfolding reading turn first seek placesOk sound cold coldStart closed closingActions step onRecord some taken takeOne course
     digits blocks actionText lineText endText courseText sheetText exampleInput exampleText
 sheet-example = refl

@@ -1,6 +1,6 @@
 -- Document 01, "Run over a log", the part on the program `sheet`: the text of a number, of a line and of the end.
 -- Defines: newline, space, slash, digitZero, colon, digits, mostDigits, decimal, partnerNumber, actionText, lineText, endText,
--- placed, placedCount.
+-- placed.
 use Prim.Native.Nat.{ℕ, zero, suc, _+_, _*_, _/_, _%_}
 use mathlib.Core.Bool.{cond}
 use mathlib.Core.List.{List, [], _∷_, _++_}
@@ -61,6 +61,3 @@ endText stop read =
 -- a text put to the front of a lent buffer, where it has room; later bytes stay
 unfoldable pub placed : List ℕ → List ℕ → List ℕ
 placed text buffer = cond (leb (length text) (length buffer)) (text ++ drop (length text) buffer) buffer
-
-unfoldable pub placedCount : List ℕ → ℕ → ℕ
-placedCount text room = cond (leb (length text) room) (length text) 0

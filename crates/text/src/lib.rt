@@ -4,8 +4,8 @@ ghost use Prim.Native.Nat.{_≤_, _<_};
 ghost use mathlib.Core.List.{[], _∷_};
 ghost use lib.ListN.{length, take, drop};
 ghost use Rattle.wire.specs.Blocks.{blocks};
-ghost use Rattle.text.specs.Texts.{decimal, partnerNumber, actionText, lineText, endText, placed, placedCount};
-ghost use Rattle.text.specs.Making.{textRoom, texted, withByte, withBytes};
+ghost use Rattle.text.specs.Texts.{decimal, partnerNumber, actionText, lineText, endText, placed};
+ghost use Rattle.text.specs.Making.{textRoom, texted, withByte, withBytes, placedCount};
 use record::partner::Partner;
 use unit::answer::Action;
 use unit::answer::Actions;
@@ -193,7 +193,13 @@ fn line(number: u32, kind: u8, code: u8, actions: Actions) -> Text
 }
 
 // Puts the line of a record to the front of a buffer and answers its length; 0 and nothing written where there is no room.
-pub fn line_into(buffer: &mut [u8], number: u32, kind: u8, code: u8, actions: Actions) -> usize
+pub(crate) fn line_into(
+    buffer: &mut [u8],
+    number: u32,
+    kind: u8,
+    code: u8,
+    actions: Actions,
+) -> usize
     ensures { λ r.
         ⌜ (r ≡ placedCount (lineText number kind code (take (actions .count) (actions .items))) (length (now (buffer .entry))))
         × (now (buffer .exit)
@@ -211,7 +217,7 @@ fn end(stop: u8, read: u32) -> Text
 }
 
 // Puts the last line to the front of a buffer and answers its length; 0 and nothing written where there is no room.
-pub fn end_into(buffer: &mut [u8], stop: u8, read: u32) -> usize
+pub(crate) fn end_into(buffer: &mut [u8], stop: u8, read: u32) -> usize
     ensures { λ r.
         ⌜ (r ≡ placedCount (endText stop read) (length (now (buffer .entry))))
         × (now (buffer .exit)

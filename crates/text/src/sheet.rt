@@ -9,8 +9,8 @@ use crate::end_into;
 use crate::line_into;
 use crate::words_into;
 use place::limits::Limits;
-use unit::run::Taken;
-use unit::run::take_one;
+use record::take::Taken;
+use record::take::take_one;
 use unit::start::cold_start;
 use unit::state::State;
 use wire::byte::byte_at;
@@ -72,7 +72,7 @@ impl Page {
     }
 
     // The rest of the sheet, from the record at the offset reached to the last line; answers how long the sheet is.
-    // The budget is not tested: a record has at least one byte, so that 4,096 bytes cannot use up 4,096 records.
+    // The budget is not tested: a record has at least one byte, so that 4,096 bytes hold at most 4,096 records, and when these are read nothing is left.
     fn fill(self, input: &[u8], buffer: &mut [u8]) -> usize
         requires { ⌜ Ready self (now buffer) × (self .at ≤ length (now input)) × (length (now input) ≤ mostInput) ⌝ }
         ensures { λ r.
@@ -87,7 +87,10 @@ impl Page {
                 Taken::Stopped(stop) => {
                     break page.end(stop, buffer);
                 }
-                Taken::Whole(length) => {
+                Taken::Refused(code) => {
+                    break page.end(code, buffer);
+                }
+                Taken::Whole { length, reading: _ } => {
                     let end = at + length;
                     page = page.next(&input[at..end], buffer);
                 }

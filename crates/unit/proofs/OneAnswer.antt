@@ -1,12 +1,11 @@
 -- No second answer satisfies the contract of a public function: a line for each of this crate's, over the contract as the checker names it.
--- Proves: state-apply-once, state-on-record-once, cold-start-once, state-is-sound-once, take-one-once, run-once.
+-- Proves: state-apply-once, state-on-record-once, cold-start-once, state-is-sound-once, run-once.
 use mathlib.Core.Path.{_≡_, sym, _∙_}
 use denote.Ref.{now}
 use Rattle.unit.proofs.state.State.apply.Reads as state-apply
 use Rattle.unit.proofs.state.State.on_record.Reads as state-on-record
 use Rattle.unit.proofs.start.cold_start.Reads as cold-start
 use Rattle.unit.proofs.state.State.is_sound.Reads as state-is-sound
-use Rattle.unit.proofs.run.take_one.Reads as take-one
 use Rattle.unit.proofs.run.run.Reads as run
 
 pub state-apply-once : (κ : _) (self : _) (bytes : _) (r₁ : _) (r₂ : _)
@@ -32,12 +31,6 @@ pub state-is-sound-once : (κ : _) (self : _) (r₁ : _) (r₂ : _)
     → state-is-sound.Post κ (self, tt) r₂ (self, tt)
     → r₁ ≡ r₂
 state-is-sound-once κ self r₁ r₂ p q = p ∙ sym q
-
-pub take-one-once : (κ : _) (log : _) (at : _) (r₁ : _) (r₂ : _)
-    → take-one.Post κ (log, (at, tt)) r₁ (log, (at, tt))
-    → take-one.Post κ (log, (at, tt)) r₂ (log, (at, tt))
-    → r₁ ≡ r₂
-take-one-once κ log at r₁ r₂ p q = p ∙ sym q
 
 pub run-once : (κ : _) (state : _) (log : _) (budget : _) (r₁ : _) (r₂ : _)
     → run.Post κ (state, (log, (budget, tt))) r₁ (state, (log, (budget, tt)))

@@ -6,3 +6,4 @@ pub mod Going
 pub mod Starting
 pub mod Steps
 pub mod Codes
+pub mod InTurn

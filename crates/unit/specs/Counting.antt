@@ -6,7 +6,7 @@ use Rattle.unit.specs.declared.run.Tally.{Tally}
 use Prim.Native.Nat.{ℕ, _+_, _*_, _≤_}
 use mathlib.Core.Bool.{cond}
 use lib.Dec.{eqb}
-use Rattle.unit.specs.Runs.{longestLog}
+use Rattle.record.specs.Takes.{longestLog}
 
 -- no total passes four actions for each byte of the longest log
 abbrev pub mostTotal : ℕ

@@ -1,12 +1,12 @@
 -- Document 01, "Run over a log".
--- Defines: nothingLeft, budgetUsed, recordShort, kindUnknown, longestLog, takeOne, onTaken, Course, course, stepsOf, steps,
--- totalOf, noTotals, totalled, fresh, counted, ended, tallied, go, runRefused, run, sumOf, runCode, allCodes.
+-- Defines: Course, course, stepsOf, steps, totalOf, noTotals, totalled, fresh, counted, ended, tallied, go, runRefused, run, takenUp,
+-- sumOf, runCode, allCodes.
 use Prim.Native.Nat.{ℕ, zero, suc, _+_}
 use mathlib.Core.Bool.{Bool, true, cond, _&&_, _||_}
 use mathlib.Core.List.{List, [], _∷_}
 use lib.Dec.{eqb, leb}
 use lib.ListN.{length, take, drop}
-use Rattle.record.specs.Records.{known, lengthOf}
+use Rattle.record.specs.Takes.{nothingLeft, budgetUsed, longestLog, taken, onTaken}
 use Rattle.wire.specs.Refusals.{accepted, outOfRange, callFromRiu, notSound, logTooLong}
 use Rattle.place.specs.Table.{request, release, incompatible, initiate, terminate, established}
 use Rattle.unit.specs.States.{sound}
@@ -17,51 +17,19 @@ use Rattle.unit.specs.declared.answer.Action.{Action}
 use Rattle.unit.specs.declared.run.Totals.{Totals}
 use Rattle.unit.specs.declared.run.Tally.{Tally}
 use Rattle.unit.specs.declared.run.Report.{Report}
-use Rattle.unit.specs.declared.run.Taken.{Taken}
-use Rattle.unit.specs.declared.run.Taken.the-variants.{Whole, Stopped}
-
--- "nothing left, stop 0; budget used up, stop 1; kind unknown, stop 3; fewer bytes than the kind's length, stop 2"
-abbrev pub nothingLeft : ℕ
-nothingLeft = 0
-
-abbrev pub budgetUsed : ℕ
-budgetUsed = 1
-
-abbrev pub recordShort : ℕ
-recordShort = 2
-
-abbrev pub kindUnknown : ℕ
-kindUnknown = 3
-
--- "log longer than 1,048,576 bytes"
-abbrev pub longestLog : ℕ
-longestLog = 1_048_576
-
--- what stands at the front of a log, the budget left aside
-unfoldable pub takeOne : List ℕ → Taken
-takeOne [] = Stopped nothingLeft
-takeOne (kind ∷ rest) =
-    cond (known kind)
-    (cond (leb (lengthOf kind) (length (kind ∷ rest))) (Whole (lengthOf kind)) (Stopped recordShort))
-    (Stopped kindUnknown)
-
--- the stop, or a record and what follows it
-abbrev pub onTaken : {A : Type 0} → Taken → (ℕ → A) → (ℕ → A) → A
-onTaken (Whole k) stopped whole = whole k
-onTaken (Stopped stop) stopped whole = stopped stop
 
 -- the course of a run: a record and what it gave, then the rest; at the end the stop
 pub data Course : Type 0 where
   stops : ℕ → Course
   applies : List ℕ → Outcome → Course → Course
 
--- "Before each record, in order: nothing left ..; budget used up ..; kind unknown ..; fewer bytes": a record is taken off the front
--- and applied, given 20 bytes for its actions, and so on from there
+-- "Before each record, in order: nothing left ..; budget used up ..; kind unknown ..; fewer bytes"; Q-8: "The run is then the two in
+-- turn": a record is taken off the front and applied, given 20 bytes for its actions, and so on from there
 unfoldable pub course : ℕ → ℕ → State → List ℕ → Course
 course n zero s [] = stops nothingLeft
 course n zero s (kind ∷ rest) = stops budgetUsed
 course n (suc budget) s log =
-    onTaken (takeOne log) stops
+    onTaken (taken log) stops
     (λ k. let o : Outcome = onRecord n s (take k log) actionRoom in applies (take k log) o (course n budget (o .state) (drop k log)))
 
 -- its steps: "Records read are the steps taken"
@@ -129,6 +97,10 @@ unfoldable pub run : ℕ → State → List ℕ → ℕ → Report
 run n s log budget =
     cond (leb (length log) longestLog) (cond (sound n s) (go n budget (fresh s) log) (runRefused notSound s))
     (runRefused logTooLong s)
+
+-- the run of so many records taken up where a run of m records came to
+abbrev pub takenUp : ℕ → State → List ℕ → ℕ → ℕ → Report
+takenUp n s log m b = run n (run n s log m .tally .state) (drop (run n s log m .tally .offset) log) b
 
 -- the sum over steps of what each counts for
 unfoldable pub sumOf : (Outcome → ℕ) → List Outcome → ℕ

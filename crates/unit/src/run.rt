@@ -6,10 +6,12 @@ ghost use lib.ListN.{length, take, drop};
 ghost use Rattle.wire.specs.Refusals.{outOfRange};
 ghost use Rattle.place.specs.Places.{tryLimit};
 ghost use Rattle.unit.specs.States.{sound};
-ghost use Rattle.unit.specs.OnRecords.{actionRoom, onRecord};
+ghost use Rattle.unit.specs.OnRecords.{onReading};
 ghost use Rattle.unit.specs.Steps.{refused};
 ghost use Rattle.unit.specs.Forms.{mostActions};
-ghost use Rattle.unit.specs.Runs.{longestLog, takeOne, noTotals, totalled, fresh, counted, go, run};
+ghost use Rattle.record.specs.Records.{readingOk};
+ghost use Rattle.record.specs.Takes.{longestLog};
+ghost use Rattle.unit.specs.Runs.{noTotals, totalled, fresh, counted, go, run};
 ghost use Rattle.unit.specs.Counting.{mostTotal, added, Below, Bounded};
 use crate::answer::Actions;
 use crate::state::State;
@@ -20,23 +22,14 @@ use place::action::RELEASE;
 use place::action::REQUEST;
 use place::action::TERMINATE;
 use record::event::Reading;
-use record::read::length_of;
-use record::read::read;
+use record::take::BUDGET_USED;
+use record::take::LONGEST_LOG;
+use record::take::NOTHING_LEFT;
+use record::take::Taken;
+use record::take::take_one;
 use wire::refusal::ACCEPTED;
 use wire::refusal::LOG_TOO_LONG;
 use wire::refusal::NOT_SOUND;
-
-// The stops.
-pub const NOTHING_LEFT: u8 = 0;
-
-pub const BUDGET_USED: u8 = 1;
-
-pub const RECORD_SHORT: u8 = 2;
-
-pub const KIND_UNKNOWN: u8 = 3;
-
-// The longest log.
-pub const LONGEST_LOG: usize = 1_048_576;
 
 // How often each of the six actions was sent.
 pub struct Totals {
@@ -62,12 +55,6 @@ pub struct Report {
     pub code: u8,
     pub stop: u8,
     pub tally: Tally,
-}
-
-// What stands at the front of a log: a whole record of this length, or a stop.
-pub enum Taken {
-    Whole(usize),
-    Stopped(u8),
 }
 
 impl Totals {
@@ -147,23 +134,6 @@ impl Totals {
     }
 }
 
-// What stands at a place of a log, the budget left aside: a whole record of this length, or stop 0, 2 or 3.
-pub fn take_one(log: &[u8], at: usize) -> Taken
-    ensures { λ r. ⌜ r ≡ takeOne (drop at (now (log .entry))) ⌝ }
-{
-    if at >= log.len() {
-        return Taken::Stopped(NOTHING_LEFT);
-    }
-    let length = length_of(log[at]);
-    if length == 0 {
-        return Taken::Stopped(KIND_UNKNOWN);
-    }
-    if log.len() - at < length {
-        return Taken::Stopped(RECORD_SHORT);
-    }
-    Taken::Whole(length)
-}
-
 impl Tally {
     // A run before its first record.
     fn fresh(state: State) -> Tally
@@ -190,13 +160,12 @@ impl Tally {
         next
     }
 
-    // The run after one more record.
-    fn apply(self, bytes: &[u8]) -> Tally
-        requires { ⌜ Bounded self × (self .offset + length (now bytes) ≤ longestLog) × (sound tryLimit (self .state) ≡ true) ⌝ }
-        ensures { λ r.
-            ⌜ r ≡ counted self (length (now (bytes .entry))) (onRecord tryLimit (self .state) (now (bytes .entry)) actionRoom) ⌝ }
+    // The run after one more record, of this length and with this meaning.
+    fn apply(self, reading: Reading, length: usize) -> Tally
+        requires { ⌜ Bounded self × (self .offset + length ≤ longestLog) × (sound tryLimit (self .state) ≡ true) × (readingOk reading ≡ true) ⌝ }
+        ensures { λ r. ⌜ r ≡ counted self length (onReading tryLimit (self .state) reading) ⌝ }
     {
-        match read(bytes) {
+        match reading {
             Reading::Meant(event) => {
                 let state = self.state;
                 let answer = state.step(event);
@@ -206,16 +175,16 @@ impl Tally {
                     let next = answer.state;
                     Tally {
                         state: next,
-                        offset: self.offset + bytes.len(),
+                        offset: self.offset + length,
                         read: self.read + 1,
                         refused: self.refused,
                         totals: totals.add_all(actions),
                     }
                 } else {
-                    self.refuse(bytes.len())
+                    self.refuse(length)
                 }
             }
-            Reading::Refused(_) => self.refuse(bytes.len()),
+            Reading::Refused(_) => self.refuse(length),
         }
     }
 }
@@ -251,9 +220,15 @@ fn go(state: State, log: &[u8], budget: usize) -> Report
                     tally,
                 };
             }
-            Taken::Whole(length) => {
-                let end = at + length;
-                tally = tally.apply(&log[at..end]);
+            Taken::Refused(code) => {
+                break Report {
+                    code: ACCEPTED,
+                    stop: code,
+                    tally,
+                };
+            }
+            Taken::Whole { length, reading } => {
+                tally = tally.apply(reading, length);
                 left -= 1;
             }
         }

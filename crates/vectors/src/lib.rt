@@ -8,4 +8,5 @@ pub mod part;
 pub mod runs;
 pub mod single;
 pub mod tally;
+pub mod turns;
 pub mod vector;

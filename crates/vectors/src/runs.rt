@@ -8,6 +8,7 @@ use crate::part::front;
 use crate::part::long_at;
 use crate::part::rest;
 use crate::part::short_at;
+use crate::turns::turns_are;
 use unit::run::Report;
 use unit::run::Tally;
 use unit::run::Totals;
@@ -66,13 +67,23 @@ fn report_is(report: Report, s: &[u8]) -> bool {
     )
 }
 
+// Whether a run, and its parts in turn, give these bytes of a report.
+fn runs_as(state: State, log: &[u8], budget: usize, s: &[u8]) -> bool {
+    and(
+        report_is(run(state, log, budget), s),
+        turns_are(state, log, budget, s),
+    )
+}
+
 // A run over a log of the vector.
 pub(crate) fn run_holds(s: &[u8]) -> bool {
     let numbers = rest(s, STATE_SIZE);
     let length = short_at(numbers, 4);
     let bytes = rest(numbers, 6);
-    report_is(
-        run(state_in(s), front(bytes, length), long_at(numbers, 0)),
+    runs_as(
+        state_in(s),
+        front(bytes, length),
+        long_at(numbers, 0),
         rest(bytes, length),
     )
 }
@@ -93,7 +104,7 @@ fn repeat(log: &mut [u8], pattern: &[u8]) {
 fn filled_run_is(state: State, log: &mut [u8], numbers: &[u8]) -> bool {
     let pattern = rest(numbers, 8);
     repeat(log, announced(pattern));
-    report_is(run(state, log, long_at(numbers, 0)), beyond(pattern))
+    runs_as(state, log, long_at(numbers, 0), beyond(pattern))
 }
 
 // Fails where the log has too little room.

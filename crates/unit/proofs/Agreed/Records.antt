@@ -7,13 +7,14 @@ use Prim.Native.Nat.{ℕ, _+_}
 use borrow.Author.Tests.{ne-eqb}
 use Rattle.wire.specs.Refusals.{accepted}
 use Rattle.unit.specs.Steps.{Outcome}
-use Rattle.unit.specs.Runs.{takeOne, course, counted, tallied, go}
+use Rattle.record.specs.Takes.{takeOne, taken}
+use Rattle.unit.specs.Runs.{course, counted, tallied, go}
 use Rattle.unit.specs.declared.run.Tally.{Tally}
 
 -- of two records, here two mode changes, both are read
 -- promise
 pub both-read : (n : ℕ) (t : Tally) → go n 2 t (3 ∷ 3 ∷ []) .tally .read ≡ t .read + 1 + 1
-unfolding course tallied takeOne counted
+unfolding course tallied taken takeOne counted
 both-read n t = refl
 
 -- "A record refused with 3 to 9 is counted": as refused

@@ -1,5 +1,5 @@
 -- One record of a run, stepped on values: it is the step on the record's bytes.
--- Proves: applied-reading, applied-numbered, applied-done, applied-kept.
+-- Proves: applied-reading, refusal-numbered, applied-done, applied-kept.
 use mathlib.Core.Path.{_≡_, sym, ap, subst, _∙_}
 use mathlib.Core.Bool.{true}
 use mathlib.Core.List.{List}
@@ -14,7 +14,6 @@ use Rattle.record.specs.declared.event.Event.{Event}
 use Rattle.record.specs.declared.event.Reading.{Reading}
 use Rattle.record.specs.declared.event.Reading.the-variants.{Refused}
 use Rattle.wire.proofs.Tests.{and-left}
-use Rattle.record.proofs.Ranges.{reading-ok}
 use Rattle.unit.specs.States.{sound}
 use Rattle.unit.specs.Steps.{Outcome, refused, step}
 use Rattle.unit.specs.OnRecords.{actionRoom, onReading, onRecord}
@@ -34,12 +33,12 @@ module _ (n : ℕ) (s : State) (bytes : List ℕ) (good : sound n s ≡ true) (r
   pub applied-reading : onRecord n s bytes actionRoom ≡ onReading n s r
   applied-reading = on-reading n s bytes actionRoom (lit≤ tt) r good (sym means)
 
-  -- a reading's refusal has a number
-  pub applied-numbered : (code : ℕ) → r ≡ Refused code → code ≡ accepted → ⊥
-  applied-numbered code is-refused none =
-      let ok : readingOk (Refused code) ≡ true = subst (λ x. readingOk x ≡ true) (sym means ∙ is-refused) (reading-ok bytes) in
-      let number = leb-true wrongLength code (and-left (leb wrongLength code) (leb code outOfRange) ok) in
-      omega arith
+-- a reading's refusal has a number
+pub refusal-numbered : (r : Reading) (code : ℕ) → readingOk r ≡ true → r ≡ Refused code → code ≡ accepted → ⊥
+refusal-numbered r code fine is-refused none =
+    let ok : readingOk (Refused code) ≡ true = subst (λ x. readingOk x ≡ true) is-refused fine in
+    let number = leb-true wrongLength code (and-left (leb wrongLength code) (leb code outOfRange) ok) in
+    omega arith
 
 -- the answer of an accepted step, counted
 pub applied-done : (t : Tally) (k : ℕ) (o : Outcome) (a : Answer) (totals : Totals)

@@ -1,12 +1,12 @@
 -- In a run no record is refused with 1, 2, 10 or 11: each step's number is 0 or 3 to 9.
 -- Proves: step-code, steps-codes, run-codes.
-use mathlib.Core.Path.{_≡_, refl, ap, _∙_}
+use mathlib.Core.Path.{_≡_, refl, sym, ap, _∙_}
 use mathlib.Core.Bool.{Bool, true, false, cond, _&&_, _||_}
 use mathlib.Core.List.{List, [], _∷_}
-use Prim.Native.Nat.{ℕ, zero, suc, _≤_}
+use Prim.Native.Nat.{ℕ, zero, suc, _≤_, _<_}
 use native.Mathlib.Omega.{arith}
 use lib.Dec.{eqb, leb}
-use lib.ListN.{length, getD, take, drop, length-drop}
+use lib.ListN.{length, take, drop, length-drop}
 use borrow.Author.Tests.{leb-true, le-leb}
 use Rattle.record.specs.Records.{bodyOf, fields}
 use Rattle.wire.specs.Refusals as refusal
@@ -20,11 +20,13 @@ use Rattle.unit.specs.OnRecords.{actionRoom, onReading, onRecord}
 use Rattle.unit.specs.declared.state.State.{State}
 use Rattle.unit.proofs.Shapes.{Shape, refuses, notes, closesEvery, orders, calls, turns, shape}
 use Rattle.unit.proofs.Sound.{onRecord-sound}
-use Rattle.unit.specs.Runs.{longestLog, takeOne, onTaken, stops, applies, course, stepsOf, steps, fresh, go, runRefused, run, runCode, allCodes}
-use Rattle.unit.specs.declared.run.Taken.{Taken}
-use Rattle.unit.specs.declared.run.Taken.the-variants.{Whole, Stopped}
+use Rattle.record.specs.Takes.{longestLog, takeOne, taken, onTaken}
+use Rattle.unit.specs.Runs.{stops, applies, course, stepsOf, steps, fresh, go, runRefused, run, runCode, allCodes}
+use Rattle.record.specs.declared.take.Taken.{Taken}
+use Rattle.record.specs.declared.take.Taken.the-variants as front
 use Rattle.unit.proofs.Runs.Applied.{applied-reading}
-use Rattle.unit.proofs.Runs.Going.{part-reads}
+use Rattle.unit.proofs.Runs.Going.{whole-ok}
+use Rattle.record.proofs.Takes.{part-reads, taken-short}
 
 abbrev Fine : Outcome → Type 0
 Fine o = runCode (o .code) ≡ true
@@ -66,12 +68,12 @@ pub steps-codes : (n : ℕ)
     → sound n s ≡ true
     → length log ≤ longestLog
     → allCodes (steps n budget s log) ≡ true
-unfolding course stepsOf allCodes takeOne
+unfolding course stepsOf allCodes taken takeOne
 steps-codes n some-try zero s [] good small = refl
 steps-codes n some-try zero s (x ∷ log) good small = refl
 steps-codes n some-try (suc budget) s [] good small = refl
 steps-codes n some-try (suc budget) s (x ∷ log) good small =
-    by (takeOne (x ∷ log)) refl
+    by (taken (x ∷ log)) refl
     (λ k.
     steps-codes n some-try budget (onRecord n s (take k (x ∷ log)) actionRoom .state) (drop k (x ∷ log))
     (onRecord-sound n some-try s (take k (x ∷ log)) actionRoom good)
@@ -80,16 +82,19 @@ steps-codes n some-try (suc budget) s (x ∷ log) good small =
     next : ℕ → Outcome
     next k = onRecord n s (take k (x ∷ log)) actionRoom
 
-    by : (taken : Taken)
-        → takeOne (x ∷ log) ≡ taken
+    by : (found : Taken)
+        → taken (x ∷ log) ≡ found
         → ((k : ℕ) → allCodes (steps n budget (next k .state) (drop k (x ∷ log))) ≡ true)
-        → allCodes (stepsOf (onTaken taken stops (λ k. applies (take k (x ∷ log)) (next k) (course n budget (next k .state) (drop k (x ∷ log)))))) ≡ true
-    by (Stopped stop) e rest = refl
-    by (Whole k) e rest =
+        → allCodes (stepsOf (onTaken found stops (λ k. applies (take k (x ∷ log)) (next k) (course n budget (next k .state) (drop k (x ∷ log)))))) ≡ true
+    by (front.Stopped stop) e rest = refl
+    by (front.Refused r) e rest = refl
+    by (front.Whole k r) e rest =
         let bytes = take k (x ∷ log) in
-        let reads = part-reads n some-try (x ∷ log) (fresh s) k (omega arith) small e bytes refl in
+        let below : 0 < length (x ∷ log) = omega arith in
+        let ok = whole-ok (x ∷ log) 0 k r below (sym (taken-short (x ∷ log) small) ∙ e) in
+        let reads = part-reads (x ∷ log) 0 below k (ok .0) (λ none. omega (arith, ok .1)) (ok .2) bytes refl in
         and-both (runCode (next k .code)) (allCodes (steps n budget (next k .state) (drop k (x ∷ log))))
-        (ap (λ o. runCode (o .code)) (applied-reading n s bytes good (fields (bodyOf (getD bytes 0 0)) bytes) reads) ∙ fields-code n s (getD bytes 0 0) bytes)
+        (ap (λ o. runCode (o .code)) (applied-reading n s bytes good (fields (bodyOf x) bytes) reads) ∙ fields-code n s x bytes)
         (rest k)
 
 -- "In every run that is not itself refused": from any state, whatever the log and the budget

@@ -9,7 +9,8 @@ use borrow.Author.Tests.{le-leb, lt-leb}
 use Rattle.wire.specs.Refusals.{notSound, logTooLong}
 use Rattle.unit.specs.States.{sound}
 use Rattle.unit.specs.declared.state.State.{State}
-use Rattle.unit.specs.Runs.{longestLog, fresh, go, runRefused, run}
+use Rattle.record.specs.Takes.{longestLog}
+use Rattle.unit.specs.Runs.{fresh, go, runRefused, run}
 
 module _ (n : ℕ) (s : State) (log : List ℕ) (budget : ℕ) where
   pub run-long : longestLog < length log → runRefused logTooLong s ≡ run n s log budget

@@ -1,5 +1,5 @@
 -- The counts of a run are those of its steps.
--- Proves: tallied-sum, run-read, run-refused, run-request, run-release, run-incompatible, run-initiate, run-terminate, run-established.
+-- Proves: tallied-sum, is-go, run-read, run-refused, run-request, run-release, run-incompatible, run-initiate, run-terminate, run-established.
 use mathlib.Core.Path.{_≡_, refl, sym, ap, _∙_}
 use mathlib.Core.Bool.{cond}
 use mathlib.Core.List.{List, [], _∷_}
@@ -13,12 +13,10 @@ use Rattle.wire.proofs.Tests.{cond-case, cond-holds}
 use Rattle.place.specs.Table.{request, release, incompatible, initiate, terminate, established}
 use Rattle.unit.specs.States.{sound}
 use Rattle.unit.specs.Steps.{Outcome, refused}
-use Rattle.unit.specs.OnRecords.{actionRoom, onRecord}
 use Rattle.unit.specs.declared.state.State.{State}
-use Rattle.unit.specs.Runs.{longestLog, Course, stops, applies, course, stepsOf, steps, totalOf, totalled, counted, fresh, tallied, go, runRefused, run, sumOf}
+use Rattle.record.specs.Takes.{longestLog}
+use Rattle.unit.specs.Runs.{Course, stops, applies, course, stepsOf, steps, totalOf, totalled, counted, fresh, tallied, go, runRefused, run, sumOf}
 use Rattle.unit.specs.declared.run.Tally.{Tally}
-use Rattle.unit.specs.declared.run.Taken.{Taken}
-use Rattle.unit.specs.declared.run.Taken.the-variants.{Whole, Stopped}
 
 -- a count that each record changes by what its step counts for is the sum over the steps
 module _ (f : Tally → ℕ) (w : Outcome → ℕ) (each : (t : Tally) (k : ℕ) (o : Outcome) → f (counted t k o) ≡ f t + w o) where
@@ -39,7 +37,7 @@ sum-one (o ∷ os) =
 
 -- the run that is not refused, as its steps
 module _ (n : ℕ) (s : State) (log : List ℕ) (budget : ℕ) (taken : run n s log budget .code ≡ refusal.accepted) where
-  is-go : run n s log budget ≡ go n budget (fresh s) log
+  pub is-go : run n s log budget ≡ go n budget (fresh s) log
   unfolding run
   is-go =
       cond-case (λ r. r .code ≡ refusal.accepted → r ≡ go n budget (fresh s) log) (leb (length log) longestLog) (cond (sound n s) (go n budget (fresh s) log) (runRefused refusal.notSound s)) (runRefused refusal.logTooLong s)

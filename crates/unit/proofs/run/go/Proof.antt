@@ -12,8 +12,9 @@ use Rattle.unit.specs.States.{sound}
 use Rattle.unit.specs.Runs.{go}
 use Rattle.unit.specs.Counting.{Bounded}
 use Rattle.unit.proofs.Runs.Tallies.{bounded-fresh}
-use Rattle.unit.proofs.Runs.Takes.{go-end, go-budget, go-stop}
-use Rattle.unit.proofs.Runs.Going.{whole-ok, part-is, part-ready, run-next}
+use Rattle.unit.proofs.Runs.Takes.{go-end, go-budget, go-stop, go-refused}
+use Rattle.record.proofs.Takes.{taken-short}
+use Rattle.unit.proofs.Runs.Going.{whole-ready, run-next}
 use Rattle.unit.proofs.run.go.Statement.{statement}
 use Rattle.unit.proofs.run.go.Tie as tie
 
@@ -26,26 +27,34 @@ abbrev μ-loop : tie.MeasureT-loop
 loop-holds : tie.Need-loop-holds Inv-loop μ-loop
 loop-holds c = rw (c .fresh .ensures) (omega arith, bounded-fresh (c .before .before .args .state), c .before .before .pre .1, refl)
 
-add-end : tie.Need-add-end Inv-loop μ-loop
-add-end c = omega (arith, whole-ok (now (c .before .before .before .before .before .before .before .before .before .args .log)) (c .before .before .before .before .before .before .loop .tally .offset) (c .before .length .given .0 .0) (c .before .before .before .before .before .if1 .left) (sym (c .before .before .before .take-one .ensures) ∙ c .before .length .given .1) .2, c .before .before .before .before .before .before .before .before .before .pre .0)
-
-sub-apply : tie.Need-sub-apply Inv-loop μ-loop
-sub-apply c = omega (arith, whole-ok (now (c .before .before .before .before .before .before .before .before .before .args .log)) (c .before .before .before .before .before .before .loop .tally .offset) (c .before .length .given .0 .0) (c .before .before .before .before .before .if1 .left) (sym (c .before .before .before .take-one .ensures) ∙ c .before .length .given .1) .2)
-
-part-apply-end : tie.Need-part-apply-end Inv-loop μ-loop
-part-apply-end c = omega (arith, whole-ok (now (c .before .before .before .before .before .before .before .before .before .args .log)) (c .before .before .before .before .before .before .loop .tally .offset) (c .before .length .given .0 .0) (c .before .before .before .before .before .if1 .left) (sym (c .before .before .before .take-one .ensures) ∙ c .before .length .given .1) .2)
-
 apply-requires : tie.Need-apply-requires Inv-loop μ-loop
-apply-requires c κs = part-ready tryLimit (lit≤ tt) (now (c .before .before .before .before .before .before .before .before .before .before .args .log)) (c .before .before .before .before .before .before .before .loop .tally) (c .before .before .length .given .0 .0) (c .before .before .before .before .before .before .if1 .left) (c .before .before .before .before .before .before .before .before .before .before .pre .0) (sym (c .before .before .before .before .take-one .ensures) ∙ c .before .before .length .given .1) _ (part-is (now (c .before .before .before .before .before .before .before .before .before .before .args .log)) (c .before .before .before .before .before .before .before .loop .tally .offset) (c .before .before .length .given .0 .0)) (c .before .before .before .before .before .before .before .loop .inv .1) (c .before .before .before .before .before .before .before .loop .inv .2)
+apply-requires c κs =
+    let start = c .before .before .before .before .before .before .before .before .before in
+    let entered = c .before .before .before .before .before .before in
+    let log = now (start .args .log) in
+    let t = entered .loop .tally in
+    let front = c .before .length .given in
+    let e = sym (c .before .before .before .take-one .ensures) ∙ front .1 in
+    whole-ready tryLimit (lit≤ tt) log t _ _ (c .before .before .before .before .before .if1 .left) (start .pre .0) e
+    (entered .loop .inv .1) (entered .loop .inv .2)
 
 sub-left : tie.Need-sub-left Inv-loop μ-loop
-sub-left c = omega (arith, c .before .before .before .before .before .before .if2 .left)
+sub-left c = omega (arith, c .before .before .before .before .before .if2 .left)
 
 loop-less : tie.Need-loop-less Inv-loop μ-loop
-loop-less c = omega (arith, c .before .before .before .before .before .before .if2 .left)
+loop-less c = omega (arith, c .before .before .before .before .before .if2 .left)
 
 loop-again : tie.Need-loop-again Inv-loop μ-loop
-loop-again c = let next = run-next tryLimit (lit≤ tt) (now (c .before .before .before .before .before .before .before .before .before .before .before .args .log)) (c .before .before .before .before .before .before .before .before .loop .tally) (c .before .before .before .length .given .0 .0) (c .before .before .before .before .before .before .before .if1 .left) (c .before .before .before .before .before .before .before .before .before .before .before .pre .0) (sym (c .before .before .before .before .before .take-one .ensures) ∙ c .before .before .before .length .given .1) _ (part-is (now (c .before .before .before .before .before .before .before .before .before .before .before .args .log)) (c .before .before .before .before .before .before .before .before .loop .tally .offset) (c .before .before .before .length .given .0 .0)) _ (c .apply .ensures) (c .before .before .before .before .before .before .before .before .loop .left) (c .before .before .before .before .before .before .before .before .loop .inv .1) (c .before .before .before .before .before .before .before .before .loop .inv .2) (c .before .before .before .before .before .before .if2 .left) in (next .0, next .1, next .2, c .before .before .before .before .before .before .before .before .loop .inv .3 ∙ next .3)
+loop-again c =
+    let start = c .before .before .before .before .before .before .before .before .before .before in
+    let entered = c .before .before .before .before .before .before .before in
+    let log = now (start .args .log) in
+    let t = entered .loop .tally in
+    let front = c .before .before .length .given in
+    let e = sym (c .before .before .before .before .take-one .ensures) ∙ front .1 in
+    let next = run-next tryLimit (lit≤ tt) log t _ _ (c .before .before .before .before .before .before .if1 .left) (start .pre .0) e
+    (entered .loop .inv .2) _ (c .apply .ensures) (entered .loop .left) (entered .loop .inv .1) (c .before .before .before .before .before .if2 .left) in
+    (next .0, next .1, next .2, entered .loop .inv .3 ∙ next .3)
 
 returns : tie.Need-returns Inv-loop μ-loop
 returns c = go-end tryLimit (c .before .loop .tally) (c .before .loop .left) (drop (c .before .loop .tally .offset) (now (c .before .before .before .before .args .log))) (drop-of-length-le (now (c .before .before .before .before .args .log)) {i = c .before .loop .tally .offset} (c .if1 .taken)) ∙ sym (c .before .loop .inv .3) ∙ ap (λ t. go tryLimit (c .before .before .before .before .args .budget) t (now (c .before .before .before .before .args .log))) (c .before .before .fresh .ensures)
@@ -54,7 +63,28 @@ returns-2 : tie.Need-returns-2 Inv-loop μ-loop
 returns-2 c = go-budget tryLimit (c .before .before .loop .tally) (drop (c .before .before .loop .tally .offset) (now (c .before .before .before .before .before .args .log))) (simp length-drop (omega (arith, c .before .if1 .left))) ∙ ap (λ b. go tryLimit b (c .before .before .loop .tally) (drop (c .before .before .loop .tally .offset) (now (c .before .before .before .before .before .args .log)))) (sym (c .if2 .taken)) ∙ sym (c .before .before .loop .inv .3) ∙ ap (λ t. go tryLimit (c .before .before .before .before .before .args .budget) t (now (c .before .before .before .before .before .args .log))) (c .before .before .before .fresh .ensures)
 
 returns-3 : tie.Need-returns-3 Inv-loop μ-loop
-returns-3 c = go-stop tryLimit (c .before .before .before .before .before .before .loop .tally) (c .before .before .before .before .before .before .loop .left) (c .before .before .before .before .if2 .left) (drop (c .before .before .before .before .before .before .loop .tally .offset) (now (c .before .before .before .before .before .before .before .before .before .args .log))) _ (sym (c .before .before .before .take-one .ensures) ∙ c .before .stop .given .1) ∙ sym (c .before .before .before .before .before .before .loop .inv .3) ∙ ap (λ t. go tryLimit (c .before .before .before .before .before .before .before .before .before .args .budget) t (now (c .before .before .before .before .before .before .before .before .before .args .log))) (c .before .before .before .before .before .before .before .fresh .ensures)
+returns-3 c =
+    let start = c .before .before .before .before .before .before .before .before .before in
+    let entered = c .before .before .before .before .before .before in
+    let log = now (start .args .log) in
+    let rest = drop (entered .loop .tally .offset) log in
+    let short = taken-short rest (simp length-drop (omega (arith, start .pre .0))) in
+    go-stop tryLimit (entered .loop .tally) (entered .loop .left) (c .before .before .before .before .if2 .left) rest _
+    (short ∙ sym (c .before .before .before .take-one .ensures) ∙ c .before .stop .given .1)
+    ∙ sym (entered .loop .inv .3)
+    ∙ ap (λ t. go tryLimit (start .args .budget) t log) (c .before .before .before .before .before .before .before .fresh .ensures)
+
+returns-4 : tie.Need-returns-4 Inv-loop μ-loop
+returns-4 c =
+    let start = c .before .before .before .before .before .before .before .before .before in
+    let entered = c .before .before .before .before .before .before in
+    let log = now (start .args .log) in
+    let rest = drop (entered .loop .tally .offset) log in
+    let short = taken-short rest (simp length-drop (omega (arith, start .pre .0))) in
+    go-refused tryLimit (entered .loop .tally) (entered .loop .left) (c .before .before .before .before .if2 .left) rest _
+    (short ∙ sym (c .before .before .before .take-one .ensures) ∙ c .before .code .given .1)
+    ∙ sym (entered .loop .inv .3)
+    ∙ ap (λ t. go tryLimit (start .args .budget) t log) (c .before .before .before .before .before .before .before .fresh .ensures)
 
 pub go-spec : {M : Type 1} → statement M
-go-spec = tie.close (tie.spec Inv-loop μ-loop (λ c κs. search needs) loop-holds (λ c κs. search needs) (λ c. search needs) (λ c. search needs) add-end sub-apply (λ c. omega arith) part-apply-end apply-requires sub-left loop-less loop-again returns returns-2 returns-3)
+go-spec = tie.close (tie.spec Inv-loop μ-loop (λ c κs. search needs) loop-holds (λ c κs. search needs) (λ c. search needs) (λ c. search needs) (λ c. search needs) apply-requires sub-left loop-less loop-again returns returns-2 returns-3 returns-4)

@@ -1,11 +1,12 @@
 -- The records passed are told.
 use borrow.Author.Needs.{needs}
 use mathlib.Core.Path.{refl, sym, ap, _∙_}
+use mathlib.Core.Logic.{inl, inr}
 use Prim.Native.Nat.{_-_}
 use native.Mathlib.Omega.{arith}
 use denote.Ref.{now}
 use lib.ListN.{length}
-use Rattle.unit.proofs.Runs.Going.{part-is}
+use Rattle.record.proofs.Takes.{part-is}
 use Rattle.text.proofs.Pages.{whole-part}
 use Rattle.text.proofs.Filling.{Filling, filling-end, end-keeps, filling-less, line-follows, filling-next}
 use Rattle.text.proofs.sheet.Page.fill.Statement.{statement}
@@ -25,6 +26,9 @@ loop-holds c =
 end-requires : tie.Need-end-requires Inv-loop μ-loop
 end-requires c κs = c .before .before .before .before .before .loop .inv .0
 
+end-requires-2 : tie.Need-end-requires-2 Inv-loop μ-loop
+end-requires-2 c κs = c .before .before .before .before .before .loop .inv .0
+
 add-end : tie.Need-add-end Inv-loop μ-loop
 add-end c =
     let told = c .before in
@@ -33,7 +37,7 @@ add-end c =
     let start = taken .before .before .before .before in
     let input = now (start .args .input) in
     let whole = sym (taken .take-one .ensures) ∙ told .length .given .1 in
-    let part = whole-part (so-far .page) input (start .pre .2) (so-far .inv .0 .1) _ whole in
+    let part = whole-part (so-far .page) input (start .pre .2) (so-far .inv .0 .1) _ _ whole in
     omega (arith, part .1, start .pre .2)
 
 part-next-end : tie.Need-part-next-end Inv-loop μ-loop
@@ -44,7 +48,7 @@ part-next-end c =
     let start = taken .before .before .before .before in
     let input = now (start .args .input) in
     let whole = sym (taken .take-one .ensures) ∙ told .length .given .1 in
-    let part = whole-part (so-far .page) input (start .pre .2) (so-far .inv .0 .1) _ whole in
+    let part = whole-part (so-far .page) input (start .pre .2) (so-far .inv .0 .1) _ _ whole in
     part .1
 
 next-requires : tie.Need-next-requires Inv-loop μ-loop
@@ -55,7 +59,7 @@ next-requires c κs =
     let start = taken .before .before .before .before in
     let input = now (start .args .input) in
     let whole = sym (taken .take-one .ensures) ∙ told .length .given .1 in
-    line-follows input (start .pre .2) _ _ (so-far .buffer) (so-far .page) (so-far .inv) _ whole _
+    line-follows input (start .pre .2) _ _ (so-far .buffer) (so-far .page) (so-far .inv) _ _ whole _
     (part-is input (so-far .page .at) (told .length .given .0 .0))
 
 loop-less : tie.Need-loop-less Inv-loop μ-loop
@@ -66,7 +70,7 @@ loop-less c =
     let start = taken .before .before .before .before in
     let input = now (start .args .input) in
     let whole = sym (taken .take-one .ensures) ∙ told .length .given .1 in
-    filling-less input (start .pre .2) _ _ (so-far .buffer) (so-far .page) (so-far .inv) _ whole _
+    filling-less input (start .pre .2) _ _ (so-far .buffer) (so-far .page) (so-far .inv) _ _ whole _
     (part-is input (so-far .page .at) (told .length .given .0 .0)) _ (c .before .before .next .ensures .0)
 
 loop-again : tie.Need-loop-again Inv-loop μ-loop
@@ -78,7 +82,7 @@ loop-again c =
     let input = now (start .args .input) in
     let whole = sym (taken .take-one .ensures) ∙ told .length .given .1 in
     let next = c .before .before .next .ensures in
-    filling-next input (start .pre .2) _ _ (so-far .buffer) (so-far .page) (so-far .inv) _ whole _
+    filling-next input (start .pre .2) _ _ (so-far .buffer) (so-far .page) (so-far .inv) _ _ whole _
     (part-is input (so-far .page .at) (told .length .given .0 .0)) _ _ (next .0) (next .1)
 
 same-length : tie.Need-same-length Inv-loop μ-loop
@@ -98,9 +102,31 @@ returns c =
     let so-far = taken .before .loop in
     let start = taken .before .before .before .before in
     let input = now (start .args .input) in
-    let stopped = sym (taken .take-one .ensures) ∙ told .stop .given .1 in
+    let ended = inl (sym (taken .take-one .ensures) ∙ told .stop .given .1) in
     let last = c .before .before .end .ensures in
-    let ends = filling-end input (start .pre .2) _ _ (so-far .buffer) (so-far .page) (so-far .inv) _ stopped in
+    let ends = filling-end input (start .pre .2) _ _ (so-far .buffer) (so-far .page) (so-far .inv) _ ended in
+    (last .0 ∙ ends .0, last .1 ∙ ends .1)
+
+same-length-2 : tie.Need-same-length-2 Inv-loop μ-loop
+same-length-2 c =
+    let ended = c .before .before in
+    let told = ended .before .before .before in
+    let so-far = told .before .before .before .loop in
+    let start = told .before .before .before .before .before .before in
+    ap length (ended .end2 .ensures .1)
+    ∙ end-keeps (now (start .args .input)) (start .pre .2) (now (start .args .buffer)) (start .args .self)
+    (so-far .buffer) (so-far .page) (so-far .inv) (told .code .given .0 .0)
+
+returns-2 : tie.Need-returns-2 Inv-loop μ-loop
+returns-2 c =
+    let told = c .before .before .before .before .before in
+    let taken = told .before .before in
+    let so-far = taken .before .loop in
+    let start = taken .before .before .before .before in
+    let input = now (start .args .input) in
+    let ended = inr (sym (taken .take-one .ensures) ∙ told .code .given .1) in
+    let last = c .before .before .end2 .ensures in
+    let ends = filling-end input (start .pre .2) _ _ (so-far .buffer) (so-far .page) (so-far .inv) _ ended in
     (last .0 ∙ ends .0, last .1 ∙ ends .1)
 
 pub fill-spec : {M : Type 1} → statement M
@@ -111,6 +137,8 @@ fill-spec =
     (λ c. search needs)
     end-requires
     (λ c. search needs)
+    end-requires-2
+    (λ c. search needs)
     add-end
     (λ c. omega arith)
     (λ c. omega arith)
@@ -119,4 +147,6 @@ fill-spec =
     loop-less
     loop-again
     same-length
-    returns)
+    returns
+    same-length-2
+    returns-2)
