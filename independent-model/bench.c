@@ -16,23 +16,24 @@ int main(int argc, char **argv)
     const bool even = strcmp(argv[1], "even") == 0, once = strcmp(argv[2], "once") == 0;
     Rng g = {strtoull(argv[3], NULL, 0)};
     State s;
-    uint8_t record[GEN_MOST], actions[ACTION_BUFFER];
-    cold_start(&s, 1, 2);
+    Plain plain;
+    uint8_t record[GEN_MOST];
+    plain_start(&plain, 1, 2, 3);
     size_t at = 0;
     while (at < sizeof log_bytes) {
-        size_t n = even ? gen_even(&g, record) : gen_record(&g, &s, true, record);
+        size_t n = even ? gen_even(&g, record) : gen_plain(&g, &plain, true, record);
         if (n > sizeof log_bytes - at) {
             record[0] = EV_MODE;
             n = 1;
         }
         memcpy(log_bytes + at, record, n);
         at += n;
-        step_trusted(&s, record, actions);
+        plain_step(&plain, record, n);
     }
     if (strcmp(argv[2], "log") == 0)
         return fwrite(log_bytes, 1, sizeof log_bytes, stdout) == sizeof log_bytes ? 0 : 1;
     RunResult out;
-    cold_start(&s, 1, 2);
+    cold_start(&s, 1, 2, 3);
     if (once)
         run_once(&s, log_bytes, sizeof log_bytes, SIZE_MAX, &out);
     else

@@ -8,7 +8,7 @@
 #include <stdlib.h>
 #include <string.h>
 
-enum { GROUPS = 9, OPS = 8, BODY_MOST = 8000, STATE_BYTES = IMAGE_BYTES - 1, GUARD = 64 };
+enum { GROUPS = 12, OPS = 11, BODY_MOST = 8000, STATE_BYTES = IMAGE_BYTES - 1, GUARD = 64 };
 
 static const uint8_t *at, *stop;       /* what is left of the body */
 static size_t number;                  /* of the vector, from 1 */
@@ -40,6 +40,7 @@ static uint32_t u32(void)
 
 static void load(State *s, const uint8_t *b)
 {
+    memset(s, 0, sizeof *s);
     uint8_t *const m[4] = {&s->inside, &s->mode, &s->manual, &s->hole_end};
     s->lowest = b[0];
     s->highest = b[1];
@@ -54,6 +55,8 @@ static void load(State *s, const uint8_t *b)
         s->tries[i] = p[2];
         s->partner[i] = (uint32_t)p[3] << 24 | (uint32_t)p[4] << 16 | (uint32_t)p[5] << 8 | p[6];
     }
+    s->n = b[36];
+    s->last = (uint32_t)b[37] << 24 | (uint32_t)b[38] << 16 | (uint32_t)b[39] << 8 | b[40];
 }
 
 static void store(const State *s, uint8_t *b)
@@ -69,6 +72,9 @@ static void store(const State *s, uint8_t *b)
         for (int k = 0; k < 4; k++)
             p[3 + k] = (uint8_t)(s->partner[i] >> (24 - 8 * k));
     }
+    b[36] = s->n;
+    for (int k = 0; k < 4; k++)
+        b[37 + k] = (uint8_t)(s->last >> (24 - 8 * k));
 }
 
 /* The rules that every state in the file keeps, sound or not. */
@@ -83,6 +89,8 @@ static void state_rules(const uint8_t *b)
         if (p[0] > 5 || p[1] > 1 || (p[0] == 3 && p[2] != 0) || (p[0] == 0 && memcmp(p, zero, 7) != 0))
             malformed("a place that cannot be held");
     }
+    if (b[37] > 1 || (b[37] == 0 && (b[38] || b[39] || b[40])))
+        malformed("a last known RBC that cannot be held");
 }
 
 static void state_in(State *s)
@@ -112,6 +120,7 @@ static void state_expected(const State *s)
     state_rules(want);
     store(s, got);
     differ_bytes("state", got, want, STATE_BYTES);
+    differ("bytes beside the state", s->zero[0] | s->zero[1] | s->zero[2], 0);
 }
 
 /* A lent buffer with a guard before and behind. */
@@ -134,9 +143,19 @@ static void guard(size_t length, uint8_t fill)
 static void cold_start_vector(void)
 {
     State s;
+    const uint8_t lowest = (uint8_t)u8(), highest = (uint8_t)u8(), tries = (uint8_t)u8();
+    memset(&s, 0xEE, sizeof s);
+    const uint8_t code = cold_start(&s, lowest, highest, tries);
+    differ("code", code, u8());
+    state_expected(&s);
+}
+
+static void cold_default_vector(void)
+{
+    State s;
     const uint8_t lowest = (uint8_t)u8(), highest = (uint8_t)u8();
     memset(&s, 0xEE, sizeof s);
-    const uint8_t code = cold_start(&s, lowest, highest);
+    const uint8_t code = cold_start_default(&s, lowest, highest);
     differ("code", code, u8());
     state_expected(&s);
 }
@@ -168,31 +187,37 @@ static void step_vector(void)
     guard(buffer, fill);
 }
 
-static void image_write_vector(void)
+static void store_vector(uint8_t (*write)(const State *, uint8_t *, size_t), unsigned bytes)
 {
     State s;
     state_in(&s);
     const size_t buffer = u8();
     const uint8_t fill = (uint8_t)u8();
     uint8_t *const image = lend(buffer, fill);
-    const uint8_t code = image_write(&s, image, buffer);
+    const uint8_t code = write(&s, image, buffer);
     differ("code", code, u8());
-    differ("count", code == 0 ? IMAGE_BYTES : 0, u8());
+    differ("count", code == 0 ? bytes : 0, u8());
     state_expected(&s);
     differ_bytes("buffer", image, take(buffer), buffer);
     guard(buffer, fill);
 }
 
-static void image_read_vector(void)
+static void store_a2_vector(void) { store_vector(image_write, IMAGE_BYTES); }
+static void store_a1_vector(void) { store_vector(image_write_old, OLD_IMAGE_BYTES); }
+
+static void load_vector(uint8_t (*read)(State *, const uint8_t *, size_t))
 {
     State s;
     memset(&s, 0xEE, sizeof s);
     const size_t length = u8();
     const uint8_t *const image = take(length);
-    const uint8_t code = image_read(&s, image, length);
+    const uint8_t code = read(&s, image, length);
     differ("code", code, u8());
     state_expected(&s);
 }
+
+static void load_any_vector(void) { load_vector(image_read); }
+static void load_new_vector(void) { load_vector(image_read_new); }
 
 static void run_expected(const State *before, const uint8_t *log, size_t length, uint32_t budget)
 {
@@ -244,10 +269,10 @@ static void long_run_vector(void)
 static void history_vector(void)
 {
     State s;
-    const uint8_t lowest = (uint8_t)u8(), highest = (uint8_t)u8();
+    const uint8_t lowest = (uint8_t)u8(), highest = (uint8_t)u8(), tries = (uint8_t)u8();
     const unsigned records = u16();
     memset(&s, 0xEE, sizeof s);
-    differ("cold start", cold_start(&s, lowest, highest), 0);
+    differ("cold start", cold_start(&s, lowest, highest, tries), 0);
     for (unsigned i = 0; i < records; i++) {
         const size_t length = u8();
         const uint8_t *const record = take(length);
@@ -276,6 +301,7 @@ static void mix_vector(void)
 {
     uint8_t b[STATE_BYTES], after[STATE_BYTES];
     memcpy(b, take(8 + 7 + 7), 8 + 7 + 7);
+    memcpy(b + 36, take(5), 5);
     const size_t length = u8();
     const uint8_t *const record = take(length);
     for (unsigned j = 0; j <= 10; j++)
@@ -293,14 +319,18 @@ static void mix_vector(void)
             differ_bytes("actions", actions, take((size_t)ACTION_BYTES * count), (size_t)ACTION_BYTES * count);
             store(&s, after);
             differ_bytes("places", after + 8, take(28), 28);
+            differ_bytes("last known RBC", after + 37, take(4), 4);
+            differ_bytes("X numbers", after, b, 2);
+            differ_bytes("n", after + 36, b + 36, 1);
         }
 }
 
 int main(int argc, char **argv)
 {
     static void (*const operation[OPS + 1])(void) = {
-        NULL, cold_start_vector, step_vector, image_write_vector, image_read_vector,
-        run_vector, long_run_vector, history_vector, mix_vector,
+        NULL, cold_start_vector, step_vector, store_a2_vector, load_any_vector,
+        run_vector, long_run_vector, history_vector, mix_vector, cold_default_vector,
+        store_a1_vector, load_new_vector,
     };
     static uint8_t file[8u << 20];
     size_t vectors[GROUPS + 1] = {0}, failed[GROUPS + 1] = {0}, all_failed = 0;

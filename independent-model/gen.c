@@ -279,6 +279,58 @@ size_t gen_record(Rng *g, const State *s, bool framed, uint8_t *r)
     return n;
 }
 
+/* A number with the 14 low bits that mean "the last known RBC"; the upper ten are few, many or any. */
+static uint32_t last_number(Rng *g)
+{
+    switch (rng_below(g, 4)) {
+    case 0: return LAST_KNOWN;
+    case 1: return 0x00FFFFFF;
+    case 2: return LAST_KNOWN | 0x4000u << rng_below(g, 10);
+    default: return LAST_KNOWN | rng_below(g, 1024) << 14;
+    }
+}
+
+size_t gen_record_last(Rng *g, const State *s, bool framed, uint8_t *r)
+{
+    const uint32_t d = rng_below(g, 100);
+    if (d >= 13)
+        return gen_record(g, s, framed, r);
+    memset(r, 0, GEN_MOST);
+    if (d < 7)                              /* an order to the last known RBC */
+        return order_record(g, s, last_number(g), r);
+    if (d < 9)                              /* an order to an RIU with such a number */
+        return order_record(g, s, 0x01000000u | last_number(g), r);
+    if (d < 10)                             /* a near miss */
+        return order_record(g, s, last_number(g) ^ 1u << rng_below(g, 14), r);
+    r[0] = (uint8_t[]){EV_ORDER, EV_DROP, EV_UP, EV_LOST, EV_TIMEOUT, EV_MESSAGE, EV_MESSAGE}[rng_below(g, 7)];
+    const size_t n = fill(g, r, (rng_below(g, 3) == 0 ? 0x01000000u : 0) | last_number(g));
+    if (rng_below(g, 8) == 0)
+        spoil(g, r);
+    return n;
+}
+
+enum { RBC_ALL_ONES = 0x00FFFFFF, STAND_IN = 0x00FFFFFE };
+
+void plain_start(Plain *p, uint8_t lowest, uint8_t highest, uint8_t n) { cold_start(&p->s, lowest, highest, n); }
+
+size_t gen_plain(Rng *g, const Plain *p, bool framed, uint8_t *r)
+{
+    State view = p->s;
+    for (int i = 0; i < PLACES; i++)
+        if (view.phase[i] != FREE && view.partner[i] == STAND_IN)
+            view.partner[i] = RBC_ALL_ONES;
+    return gen_record(g, &view, framed, r);
+}
+
+void plain_step(Plain *p, const uint8_t *r, size_t length)
+{
+    uint8_t stood_in[GEN_MOST] = {0}, actions[ACTION_BUFFER];
+    memcpy(stood_in, r, length);
+    if (length >= 5 && r[1] == RBC && r[2] == 0xFF && r[3] == 0xFF && r[4] == 0xFF)
+        stood_in[4] = STAND_IN & 255;
+    step(&p->s, stood_in, length, actions, sizeof actions);
+}
+
 size_t gen_even(Rng *g, uint8_t *r)
 {
     memset(r, 0, GEN_MOST);
@@ -305,4 +357,10 @@ void gen_x(Rng *g, uint8_t *lowest, uint8_t *highest)
         *lowest = a < b ? a : b;
         *highest = a < b ? b : a;
     }
+}
+
+uint8_t gen_n(Rng *g)
+{
+    const uint32_t d = rng_below(g, 100);
+    return (uint8_t)(d < 20 ? TRIES_DEFAULT : d < 35 ? TRIES_OLD : 1 + rng_below(g, TRIES_MOST));
 }

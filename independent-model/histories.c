@@ -1,7 +1,7 @@
 /* histories SEED COUNT LENGTH: random closed histories with what the model expects.
- *   H <lowest> <highest>
+ *   H <lowest> <highest>          a cold start with n = 3
  *   R <record in hex, or ->
- *   A <code> <place> <phase> <actions in hex, or -> <image of the state after the step, in hex>
+ *   A <code> <place> <phase> <actions in hex, or -> <A2 image of the state after the step, in hex>
  * and an empty line after each history. */
 #include "gen.h"
 
@@ -43,12 +43,12 @@ int main(int argc, char **argv)
         uint8_t lowest, highest;
         gen_x(&g, &lowest, &highest);
         State s;
-        if (cold_start(&s, lowest, highest) != 0)
+        if (cold_start(&s, lowest, highest, 3) != 0)
             return 1;
         printf("H %u %u\n", lowest, highest);
         for (unsigned long long k = 0; k < length; k++) {
             uint8_t record[GEN_MOST], actions[ACTION_BUFFER], image[IMAGE_BYTES];
-            const size_t n = gen_record(&g, &s, false, record);
+            const size_t n = gen_record_last(&g, &s, false, record);
             const StepResult r = step(&s, record, n, actions, sizeof actions);
             if (image_write(&s, image, sizeof image) != 0) {
                 fputs("the state is no longer sound\n", stderr);

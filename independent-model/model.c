@@ -2,7 +2,7 @@
 
 #include <string.h>
 
-_Static_assert(sizeof(State) == 36, "State has no padding");
+_Static_assert(sizeof(State) == 44, "State has no padding");
 _Static_assert(offsetof(State, lowest) == 0 && offsetof(State, inside) == 4 &&
                offsetof(State, hole_end) == 7 && offsetof(State, partner) == 8,
                "the first eight bytes stand as in the image");
@@ -26,38 +26,56 @@ static inline void put32(uint8_t *b, uint32_t v)
 
 /* ---- state ---- */
 
-uint8_t cold_start(State *s, uint8_t lowest, uint8_t highest)
+uint8_t cold_start(State *s, uint8_t lowest, uint8_t highest, uint8_t n)
 {
     memset(s, 0, sizeof *s);
-    if (highest > 7 || lowest > highest)
+    s->n = TRIES_OLD;
+    if (highest > 7 || lowest > highest || n < TRIES_LEAST || n > TRIES_MOST)
         return 13;
     s->lowest = lowest;
     s->highest = highest;
+    s->n = n;
     return 0;
 }
 
-/* For each phase, the allowed (type, direction, tries) as bits 8 * type + 4 * direction + tries. */
-static const uint16_t place_allowed[ENDING + 1] = {
-    [FREE]       = 0x0001,   /* all zero */
-    [CONNECTING] = 0x0E0E,   /* outgoing, tries 1..3, RBC or RIU */
-    [CONTACTING] = 0x0E0E,
-    [OPEN]       = 0x0111,   /* tries 0; an RIU only outgoing */
-    [LOST]       = 0x0EEE,   /* tries 1..3; an RIU only outgoing */
-    [ENDING]     = 0x0EEE,
+uint8_t cold_start_default(State *s, uint8_t lowest, uint8_t highest)
+{
+    return cold_start(s, lowest, highest, TRIES_DEFAULT);
+}
+
+/* An RBC whose number means "the last known RBC": type 0, low 14 bits all one. */
+static inline bool means_last(uint32_t who) { return (who & (0xFF000000u | LAST_KNOWN)) == LAST_KNOWN; }
+
+/* For each phase, the allowed (type, direction, tries) as bits 32 * type + 16 * direction + tries;
+ * that the tries are at most n is tested for all places at once. */
+static const uint64_t place_allowed[ENDING + 1] = {
+    [FREE]       = 0x0000000000000001,     /* all zero */
+    [CONNECTING] = 0x0000FFFE0000FFFE,     /* outgoing, tries from 1, RBC or RIU */
+    [CONTACTING] = 0x0000FFFE0000FFFE,
+    [OPEN]       = 0x0000000100010001,     /* tries 0; an RIU only outgoing */
+    [LOST]       = 0x0000FFFEFFFEFFFE,     /* tries from 1; an RIU only outgoing */
+    [ENDING]     = 0x0000FFFEFFFEFFFE,
 };
 
 static inline bool is_sound(const State *s)
 {
     /* Four bytes at a time; every test is the same for each of them, so their order does not
-     * matter. A phase over 5 shows in bit 7, its own or that of the sum. */
+     * matter. A phase over 5 shows in bit 7, its own or that of the sum. With n in 1..9 and
+     * no tries over 15, tries over n take bit 7 away from the difference. */
     uint32_t marks, phases, directions, tries;
     memcpy(&marks, (const uint8_t *)s + offsetof(State, inside), 4);
     memcpy(&phases, s->phase, 4);
     memcpy(&directions, s->direction, 4);
     memcpy(&tries, s->tries, 4);
     const uint32_t types = s->partner[0] | s->partner[1] | s->partner[2] | s->partner[3];
-    if (((marks | directions) & 0xFEFEFEFEu) | (tries & 0xFCFCFCFCu) | (types & 0xFE000000u) |
+    if (((marks | directions) & 0xFEFEFEFEu) | (tries & 0xF0F0F0F0u) | (types & 0xFE000000u) |
         ((phases | (phases + 0x7A7A7A7Au)) & 0x80808080u))
+        return false;
+    if (s->n < TRIES_LEAST || s->n > TRIES_MOST)
+        return false;
+    if ((((s->n * 0x01010101u | 0x80808080u) - tries) & 0x80808080u) != 0x80808080u)
+        return false;
+    if (s->last != 0 && (s->last >> 24 != 1 || (s->last & LAST_KNOWN) == LAST_KNOWN))
         return false;
     if (s->highest > 7 || s->lowest > s->highest || s->level > 4 || s->mission > 2)
         return false;
@@ -65,12 +83,14 @@ static inline bool is_sound(const State *s)
         return false;
     for (int i = 0; i < PLACES; i++) {
         const uint32_t who = s->partner[i];
-        if (!(place_allowed[s->phase[i]] >> (who >> 24 << 3 | s->direction[i] << 2 | s->tries[i]) & 1))
+        if (!(place_allowed[s->phase[i]] >> (who >> 24 << 5 | s->direction[i] << 4 | s->tries[i]) & 1))
             return false;
         if (s->phase[i] == FREE) {
             if (who != 0)
                 return false;
         } else {
+            if (means_last(who))
+                return false;
             for (int j = 0; j < i; j++)
                 if (s->partner[j] == who && s->phase[j] != FREE)
                     return false;
@@ -113,6 +133,13 @@ static inline void take(State *s, unsigned i, uint32_t who, uint8_t phase, uint8
     s->partner[i] = who;
     s->direction[i] = direction;
     set(s, i, phase, tries);
+}
+
+/* A 159 is sent: to an RBC, it becomes the last known one. */
+static inline void remember(State *s, uint32_t who)
+{
+    if (who >> 24 == RBC)
+        s->last = KNOWN | who;
 }
 
 /* ---- actions: each function writes at a and gives the next place to write ---- */
@@ -198,6 +225,11 @@ static inline Answer order(State *s, uint32_t who, uint8_t accepting, uint8_t ca
     }
     if (!in_force)
         return refuse(4);
+    if (means_last(who)) {
+        if (s->last == 0)
+            return refuse(15);
+        who = s->last ^ KNOWN;             /* an RBC: type 0 */
+    }
     const Found at = find(s, who);         /* the free place before the closings */
     if (at.phase != FREE)
         return refuse_at(5, at);
@@ -225,6 +257,7 @@ static inline Answer call(State *s, uint32_t who, uint8_t *a)
     if (at.place == PLACES)
         return refuse(8);
     take(s, at.place, who, OPEN, INCOMING, 0);
+    remember(s, who);
     return done(a, act(a, ACT_ESTABLISHED, who));
 }
 
@@ -279,6 +312,8 @@ static inline Answer step_known(State *s, const uint8_t *r, uint8_t *a)
             return refuse(3);
         return order(s, who, r[5], r[6], a);
     }
+    if (means_last(who))
+        return refuse(3);
     if (kind == EV_MESSAGE) {
         if (r[5] == 32 ? r[6] > 127 : (r[5] != 38 && r[5] != 39) || r[6] != 0)
             return refuse(3);
@@ -321,7 +356,7 @@ static inline Answer step_known(State *s, const uint8_t *r, uint8_t *a)
     case EV_TIMEOUT:
         if (phase == OPEN)
             return refuse_at(7, at);
-        if (s->tries[i] < 3) {
+        if (s->tries[i] < s->n) {
             s->tries[i]++;
             a = act(a, repeated[phase], who);
         } else {
@@ -339,6 +374,7 @@ static inline Answer step_known(State *s, const uint8_t *r, uint8_t *a)
             const uint8_t x = r[6] >> 4;   /* version is 16 * X + Y */
             if (s->lowest <= x && x <= s->highest) {
                 set(s, i, OPEN, 0);
+                remember(s, who);
                 a = act(a, ACT_ESTABLISHED, who);
             } else {
                 set(s, i, ENDING, 1);
@@ -378,13 +414,14 @@ StepResult step(State *s, const uint8_t *record, size_t length,
     return result(step_tested(s, record, length, actions, actions_length));
 }
 
-/* ---- the image ---- */
+/* ---- the images ---- */
 
-void image_store(const State *s, uint8_t image[IMAGE_BYTES])
+enum { BODY_BYTES = OLD_IMAGE_BYTES - 1 };     /* what stands behind the kind in both images */
+
+static inline void body_store(const State *s, uint8_t *body)
 {
-    image[0] = IMAGE_KIND;
-    memcpy(image + 1, s, 8);               /* X numbers, level, mission, marks stand in this order */
-    uint8_t *p = image + 9;
+    memcpy(body, s, 8);                    /* X numbers, level, mission, marks stand in this order */
+    uint8_t *p = body + 8;
     for (int i = 0; i < PLACES; i++, p += 7) {
         p[0] = s->phase[i];
         p[1] = s->direction[i];
@@ -393,16 +430,44 @@ void image_store(const State *s, uint8_t image[IMAGE_BYTES])
     }
 }
 
-void image_load(State *s, const uint8_t image[IMAGE_BYTES])
+static inline void body_load(State *s, const uint8_t *body)
 {
-    memcpy(s, image + 1, 8);
-    const uint8_t *p = image + 9;
+    memset(s, 0, sizeof *s);
+    memcpy(s, body, 8);
+    const uint8_t *p = body + 8;
     for (int i = 0; i < PLACES; i++, p += 7) {
         s->phase[i] = p[0];
         s->direction[i] = p[1];
         s->tries[i] = p[2];
         s->partner[i] = get32(p + 3);
     }
+}
+
+void image_store(const State *s, uint8_t image[IMAGE_BYTES])
+{
+    image[0] = IMAGE_KIND;
+    body_store(s, image + 1);
+    image[1 + BODY_BYTES] = s->n;
+    put32(image + 2 + BODY_BYTES, s->last);    /* 1 and the number, or four zeros */
+}
+
+void image_load(State *s, const uint8_t image[IMAGE_BYTES])
+{
+    body_load(s, image + 1);
+    s->n = image[1 + BODY_BYTES];
+    s->last = get32(image + 2 + BODY_BYTES);
+}
+
+void image_store_old(const State *s, uint8_t image[OLD_IMAGE_BYTES])
+{
+    image[0] = OLD_IMAGE_KIND;
+    body_store(s, image + 1);
+}
+
+void image_load_old(State *s, const uint8_t image[OLD_IMAGE_BYTES])
+{
+    body_load(s, image + 1);
+    s->n = TRIES_OLD;                      /* and no last known RBC */
 }
 
 uint8_t image_write(const State *s, uint8_t *image, size_t length)
@@ -415,21 +480,43 @@ uint8_t image_write(const State *s, uint8_t *image, size_t length)
     return 0;
 }
 
-uint8_t image_read(State *s, const uint8_t *image, size_t length)
+uint8_t image_write_old(const State *s, uint8_t *image, size_t length)
 {
-    cold_start(s, 0, 0);
-    if (length == 0)
-        return 1;
-    if (image[0] != IMAGE_KIND)
-        return 2;
-    if (length != IMAGE_BYTES)
-        return 1;
-    image_load(s, image);
-    if (is_sound(s))
-        return 0;
-    cold_start(s, 0, 0);
-    return 11;
+    if (length < OLD_IMAGE_BYTES)
+        return 10;
+    if (!is_sound(s))
+        return 11;
+    if (s->n != TRIES_OLD || s->last != 0)
+        return 16;
+    image_store_old(s, image);
+    return 0;
 }
+
+/* What a refused cold start or read leaves: X from 0 to 0, n = 3, all else zero. */
+static uint8_t read_refused(State *s, uint8_t code)
+{
+    cold_start(s, 0, 0, TRIES_OLD);
+    return code;
+}
+
+static inline uint8_t read_as(State *s, const uint8_t *image, size_t length, const bool old_too)
+{
+    if (length == 0)
+        return read_refused(s, 1);
+    const bool old = old_too && image[0] == OLD_IMAGE_KIND;
+    if (!old && image[0] != IMAGE_KIND)
+        return read_refused(s, 2);
+    if (length != (old ? OLD_IMAGE_BYTES : IMAGE_BYTES))
+        return read_refused(s, 1);
+    if (old)
+        image_load_old(s, image);
+    else
+        image_load(s, image);
+    return is_sound(s) ? 0 : read_refused(s, 11);
+}
+
+uint8_t image_read(State *s, const uint8_t *image, size_t length) { return read_as(s, image, length, true); }
+uint8_t image_read_new(State *s, const uint8_t *image, size_t length) { return read_as(s, image, length, false); }
 
 /* ---- the run ---- */
 

@@ -17,11 +17,11 @@ int main(int argc, char **argv)
     static uint8_t bytes[ROOM + GEN_MOST];
     uint8_t actions[ACTION_BUFFER];
     State s;
-    cold_start(&s, 1, 2);
+    cold_start(&s, 1, 2, 3);
     const size_t most = rng_below(&g, 8) == 0 ? ROOM : rng_below(&g, 1200);
     size_t length = 0;
     while (length < most) {
-        const size_t n = gen_record(&g, &s, true, bytes + length);
+        const size_t n = gen_record_last(&g, &s, true, bytes + length);
         step_trusted(&s, bytes + length, actions);
         length += n;
     }

@@ -10,7 +10,7 @@ static uint8_t input[LOG_MOST + 1];
 static void print_steps(size_t length)
 {
     State s;
-    cold_start(&s, 1, 2);
+    cold_start(&s, 1, 2, 3);
     uint8_t actions[ACTION_BUFFER] = {0};      /* one buffer for all records */
     unsigned read = 0, refused = 0, sent = 0;
     size_t at = 0;
@@ -32,7 +32,7 @@ static void print_run(size_t length, bool once)
 {
     State s;
     RunResult out;
-    cold_start(&s, 1, 2);
+    cold_start(&s, 1, 2, 3);
     (once ? run_once : run_checked)(&s, input, length, SIZE_MAX, &out);
     printf("code %u stop %u offset %u read %u refused %u totals", out.code, out.stop, out.offset,
            out.read, out.refused);

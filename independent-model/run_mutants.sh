@@ -1,6 +1,6 @@
 #!/bin/sh
 # Builds check_vectors with each mutant of model.c and runs it over FILE (vectors.bin).
-# mutants.txt: number, failed vectors of groups 1 to 9, all, name. 'crash' counts as caught.
+# mutants.txt: number, failed vectors of groups 1 to 12, all, name. 'crash' counts as caught.
 file=${1:-vectors.bin}
 gcc -O2 -std=c11 -Wall -Wextra -o mutate mutate.c || exit 1
 gcc -O3 -std=c11 -Wall -Wextra -c check_vectors.c || exit 1
@@ -25,9 +25,9 @@ wait $odd
 sort -n $dir/odd $dir/even > mutants.txt
 rm -r $dir
 awk '$2 == "crash" || $2 == "-" { other++; print; next }
-     { made++; for (g = 1; g <= 9; g++) if ($(g + 1) > 0) by[g]++
-       if ($11 > 0) { caught++; few = 0; for (g = 1; g <= 8; g++) few += $(g + 1) > 0; if (!few) only9++ }
+     { made++; for (g = 1; g <= 12; g++) if ($(g + 1) > 0) by[g]++
+       if ($14 > 0) { caught++; few = 0; for (g = 1; g <= 12; g++) few += g != 9 && $(g + 1) > 0; if (!few) only9++ }
        else print "survived: " $0 }
      END { printf "mutants run %d, caught %d, other %d\n", made, caught, other
-           printf "caught by group:"; for (g = 1; g <= 9; g++) printf " %d: %d", g, by[g]; print ""
-           printf "caught by histories only: %d\n", only9 }' mutants.txt
+           printf "caught by group:"; for (g = 1; g <= 12; g++) printf " %d: %d", g, by[g]; print ""
+           printf "caught by the histories of group 9 only: %d\n", only9 }' mutants.txt

@@ -19,7 +19,7 @@ int sheet_model(FILE *in, FILE *out)
     }
 
     State s;
-    cold_start(&s, 1, 2);
+    cold_start(&s, 1, 2, 3);
     fputs("rec kind code actions\n", out);
     size_t at = 0;
     unsigned read = 0, stop;

@@ -1,4 +1,4 @@
-/* Test of the model against document 01. Expectations are written out here by hand or by a
+/* Test of the model against document 01 and the requests Q-2, Q-3, Q-4 and Q-6. Expectations are written out here by hand or by a
  * second, slow and literal reading; nothing of model.c's insides is used. */
 #include "gen.h"
 #include "model.h"
@@ -25,12 +25,14 @@ static void check_at(bool ok, int line, const char *text)
 
 static bool same(const State *a, const State *b) { return memcmp(a, b, sizeof *a) == 0; }
 
-static State cold(uint8_t lo, uint8_t hi)
+static State cold_n(uint8_t lo, uint8_t hi, uint8_t n)
 {
     State s;
-    CHECK(cold_start(&s, lo, hi) == 0);
+    CHECK(cold_start(&s, lo, hi, n) == 0);
     return s;
 }
+
+static State cold(uint8_t lo, uint8_t hi) { return cold_n(lo, hi, 3); }
 
 static void hold(State *s, int i, uint8_t phase, uint8_t direction, uint8_t tries, uint32_t who)
 {
@@ -44,14 +46,16 @@ static void hold(State *s, int i, uint8_t phase, uint8_t direction, uint8_t trie
 static bool tells(const State *before, const uint8_t *record, StepResult r)
 {
     unsigned place = 4, phase = 0;
-    if (r.code == 5 || (r.code == 7 && record[0] != 4))
+    if (r.code == 5 || (r.code == 7 && record[0] != 4)) {
+        const bool meant = record[0] == 5 && record[1] == 0 && (record[3] & 63) == 63 && record[4] == 255;
+        const uint32_t named = (uint32_t)record[1] << 24 | (uint32_t)record[2] << 16 | (uint32_t)record[3] << 8 | record[4];
+        const uint32_t who = meant ? before->last & 0xFFFFFF : named;
         for (place = 0; place < 4; place++) {
-            const uint32_t p = before->partner[place];
             phase = before->phase[place];
-            if (phase != 0 && p >> 24 == record[1] && (p >> 16 & 255) == record[2] &&
-                (p >> 8 & 255) == record[3] && (p & 255) == record[4])
+            if (phase != 0 && before->partner[place] == who)
                 break;
         }
+    }
     return r.place == place && r.phase == phase;
 }
 
@@ -96,11 +100,26 @@ static bool refuses(State *s, const uint8_t *record, size_t n, int code, int pla
 #define P(who) (uint8_t)((who) >> 24), (uint8_t)((who) >> 16), (uint8_t)((who) >> 8), (uint8_t)(who)
 #define RIU_(n) (0x01000000u + (n))
 
-/* ---- a slow, literal soundness, over the 37 bytes of an image ---- */
+/* ---- a slow, literal soundness, over the 42 bytes of an A2 image ---- */
+
+/* NID_RBC, the low 14 bits of a number of three bytes, is 16,383. */
+static bool slow_last(const uint8_t *number)
+{
+    const unsigned long v = number[0] * 65536ul + number[1] * 256ul + number[2];
+    return v % 16384 == 16383;
+}
 
 static bool slow_sound(const uint8_t *b)
 {
-    if (b[0] != 0xA1) return false;
+    if (b[0] != 0xA2) return false;
+    const int n = b[37];
+    if (n < 1) return false;
+    if (n > 9) return false;
+    if (b[38] > 1) return false;
+    if (b[38] == 0 && b[39] != 0) return false;
+    if (b[38] == 0 && b[40] != 0) return false;
+    if (b[38] == 0 && b[41] != 0) return false;
+    if (b[38] == 1 && slow_last(b + 39)) return false;
     if (b[1] > 7) return false;
     if (b[2] > 7) return false;
     if (b[1] > b[2]) return false;
@@ -120,10 +139,11 @@ static bool slow_sound(const uint8_t *b)
         if (p[0] == 3) {
             if (p[2] != 0) return false;
         } else {
-            if (p[2] < 1 || p[2] > 3) return false;
+            if (p[2] < 1 || p[2] > n) return false;
         }
         if (p[3] != 0 && p[3] != 1) return false;
         if (p[3] == 1 && p[1] == 1) return false;
+        if (p[3] == 0 && slow_last(p + 4)) return false;
         if ((p[0] == 1 || p[0] == 2) && p[1] != 0) return false;
         for (int j = 0; j < i; j++) {
             const uint8_t *q = b + 9 + 7 * j;
@@ -133,7 +153,7 @@ static bool slow_sound(const uint8_t *b)
     return true;
 }
 
-/* ---- a slow, literal step, over the 37 bytes of an image; written apart from the model ---- */
+/* ---- a slow, literal step, over the 42 bytes of an A2 image; written apart from the model ---- */
 
 typedef struct { int code, count, place, phase; uint8_t a[20]; } Slow;
 
@@ -225,10 +245,16 @@ static Slow slow_step(uint8_t *b, const uint8_t *r, size_t n, size_t buffer)
         break;
     }
     if (r[1] > 1) NO(3);
+    /* the partner that is meant: the named one, but for an order to the last known RBC */
+    uint8_t who[4];
+    memcpy(who, r + 1, 4);
+    const bool to_last = r[1] == 0 && slow_last(r + 2);
+    if (to_last && r[0] != 5) NO(3);
+    if (to_last) memcpy(who + 1, b + 39, 3);
     int mine = -1, empty = -1;
     for (int i = 3; i >= 0; i--) {
         if (b[9 + 7 * i] == 0) empty = i;
-        else if (memcmp(b + 9 + 7 * i + 3, r + 1, 4) == 0) mine = i;
+        else if (memcmp(b + 9 + 7 * i + 3, who, 4) == 0) mine = i;
     }
     if (r[0] == 5) {
         if (r[5] > 1) NO(3);
@@ -238,6 +264,7 @@ static Slow slow_step(uint8_t *b, const uint8_t *r, size_t n, size_t buffer)
         if (r[6] == 2 && !(*mission != 0 && l23 && *mode == 1)) NO(4);
         if (r[6] == 3 && !(l23 && *manual == 1)) NO(4);
         if (r[6] == 4 && *hole_end != 1) NO(4);
+        if (to_last && b[38] == 0) NO(15);
         if (mine >= 0) NO_AT(5, mine);
         if (empty < 0) NO(8);
         if (r[6] == 2) *mode = 0;
@@ -253,8 +280,8 @@ static Slow slow_step(uint8_t *b, const uint8_t *r, size_t n, size_t buffer)
         p[0] = 1;
         p[1] = 0;
         p[2] = 1;
-        memcpy(p + 3, r + 1, 4);
-        slow_act(&w, 21, r + 1);
+        memcpy(p + 3, who, 4);
+        slow_act(&w, 21, who);
         return w;
     }
     int column = -1;
@@ -277,6 +304,8 @@ static Slow slow_step(uint8_t *b, const uint8_t *r, size_t n, size_t buffer)
             p[2] = 0;
             memcpy(p + 3, r + 1, 4);
             slow_act(&w, 159, r + 1);
+            b[38] = 1;
+            memcpy(b + 39, r + 2, 3);
             return w;
         }
         column = r[5] == 32 ? 4 : 5;
@@ -303,7 +332,7 @@ static Slow slow_step(uint8_t *b, const uint8_t *r, size_t n, size_t buffer)
         p[0] = 3;
         p[2] = 0;
     } else if (cell[0] == 't') {
-        if (p[2] == 3) {
+        if (p[2] == b[37]) {
             slow_act(&w, 22, r + 1);
             memset(p, 0, 7);
         } else {
@@ -316,6 +345,10 @@ static Slow slow_step(uint8_t *b, const uint8_t *r, size_t n, size_t buffer)
             slow_act(&w, 159, r + 1);
             p[0] = 3;
             p[2] = 0;
+            if (r[1] == 0) {
+                b[38] = 1;
+                memcpy(b + 39, r + 2, 3);
+            }
         } else {
             slow_act(&w, 154, r + 1);
             slow_act(&w, 156, r + 1);
@@ -331,14 +364,14 @@ static Slow slow_step(uint8_t *b, const uint8_t *r, size_t n, size_t buffer)
 /* The model and the slow step on the same state and record; both advance. */
 static bool agree(State *s, const uint8_t *r, size_t n)
 {
-    uint8_t image[37], after[37], buffer[23];
+    uint8_t image[42], after[42], buffer[23];
     image_store(s, image);
     memset(buffer, 0x77, sizeof buffer);
     const Slow w = slow_step(image, r, n, 20);
     const StepResult got = step(s, r, n, buffer, 20);
     image_store(s, after);
     bool ok = got.code == w.code && got.count == w.count && got.place == w.place &&
-              got.phase == w.phase && memcmp(image, after, 37) == 0 &&
+              got.phase == w.phase && memcmp(image, after, 42) == 0 &&
               memcmp(buffer, w.a, 5u * (unsigned)w.count) == 0;
     for (size_t i = 5u * (unsigned)w.count; i < sizeof buffer; i++)
         ok = ok && buffer[i] == 0x77;
@@ -362,12 +395,14 @@ static void examples(void)
     CHECK(same(&s, &w));
     CHECK(takes(&s, REC(11, 0, 0, 0, 5, 0x20, 0x11), 0, 1, 159, 5));
     hold(&w, 0, OPEN, OUTGOING, 0, 5);
+    w.last = 0x01000005;
     CHECK(same(&s, &w));
     CHECK(takes(&s, REC(6, 0, 0, 0, 5), 0, 1, 156, 5));
     hold(&w, 0, ENDING, OUTGOING, 1, 5);
     CHECK(same(&s, &w));
     CHECK(takes(&s, REC(11, 0, 0, 0, 5, 0x27, 0), 0, 1, 22, 5));
     w = cold(1, 2);
+    w.last = 0x01000005;
     CHECK(same(&s, &w));
 
     /* P2 */
@@ -380,7 +415,7 @@ static void examples(void)
     CHECK(same(&s, &w));
 
     /* P3 */
-    s = cold(1, 2);
+    s = w = cold(1, 2);
     hold(&s, 0, CONTACTING, OUTGOING, 3, 5);
     CHECK(takes(&s, REC(11, 0, 0, 0, 5, 32, 48), 0, 2, 154, 5, 156, 5));
     hold(&w, 0, ENDING, OUTGOING, 1, 5);
@@ -391,6 +426,7 @@ static void examples(void)
     CHECK(takes(&s, REC(11, 0, 0, 0, 5, 32, 128), 3, 0));
     CHECK(takes(&s, REC(11, 0, 0, 0, 5, 32, 47), 0, 1, 159, 5));
     hold(&w, 0, OPEN, OUTGOING, 0, 5);
+    w.last = 0x01000005;
     CHECK(same(&s, &w));
 
     /* P5, P6 */
@@ -398,7 +434,7 @@ static void examples(void)
     for (unsigned i = 1; i <= 4; i++) {
         CHECK(takes(&s, REC(11, P(i), 38, 0), 0, 1, 159, i));
         CHECK(s.phase[i - 1] == OPEN && s.direction[i - 1] == INCOMING && s.tries[i - 1] == 0);
-        CHECK(s.partner[i - 1] == i);
+        CHECK(s.partner[i - 1] == i && s.last == (0x01000000 | i));
     }
     CHECK(takes(&s, REC(11, P(5u), 38, 0), 8, 0));
     CHECK(takes(&s, REC(11, P(1u), 38, 0), 5, 0));
@@ -451,6 +487,7 @@ static void examples(void)
     for (int i = 0; i < 2; i++) CHECK(takes(&s, REC(10, 0, 0, 0, 9), 0, 1, 156, 9));
     CHECK(takes(&s, REC(11, 0, 0, 0, 9, 39, 0), 0, 1, 22, 9));
     w = cold(1, 2);
+    w.last = 0x01000009;
     CHECK(same(&s, &w));
 }
 
@@ -502,7 +539,7 @@ static size_t column_record(uint8_t *r, int column, uint32_t who, uint8_t versio
 
 static void table_cells(void)
 {
-    static const uint32_t partners[] = {5, 0, RIU_(5u), RIU_(0u), 0x00FFFFFF, 0x01FFFFFF, 0x00010203};
+    static const uint32_t partners[] = {5, 0, RIU_(5u), RIU_(0u), 0x00FFFFFE, 0x01FFFFFF, 0x00010203, 0x01003FFF};
     /* a free place's bytes are also those of RBC 0: the other places stay free or hold a neighbour */
     for (size_t row = 0; row < sizeof table / sizeof table[0]; row++)
         for (int column = 0; column < 7; column++)
@@ -514,9 +551,10 @@ static void table_cells(void)
                             if (direction == INCOMING && (table[row].phase < 3 || who >> 24 == RIU))
                                 continue;
                             State s = cold(1, 2);
+                            const uint32_t twin = who >> 24 == RIU && who % 16384 == 16383 ? who ^ 0x01000001 : who ^ 0x01000000;
                             for (int i = 0; crowd && i < 4; i++)   /* same number, the other type too */
                                 hold(&s, i, i == 2 ? CONTACTING : LOST, OUTGOING, 2,
-                                     i == 1 ? who ^ 0x01000000 : 0x77u + (unsigned)i);
+                                     i == 1 ? twin : 0x77u + (unsigned)i);
                             hold(&s, place, table[row].phase, (uint8_t)direction, table[row].tries, who);
                             CHECK(sound(&s));
                             const Cell *c = &table[row].cell[column];
@@ -530,11 +568,37 @@ static void table_cells(void)
                                 if (c->code == 0) {
                                     if (c->phase == 0) hold(&want, place, 0, 0, 0, 0);
                                     else hold(&want, place, c->phase, (uint8_t)direction, c->tries, who);
+                                    if (c->a0 == 159 && who >> 24 == RBC) want.last = 0x01000000 | who;
                                 }
                                 CHECK(takes(&got, r, n, c->code, (c->a0 != 0) + (c->a1 != 0),
                                             (unsigned)c->a0, who, (unsigned)c->a1, who));
                                 CHECK(same(&got, &want));
                             }
+                        }
+    /* every n, phase, tries 0 to n + 1, event, place, direction, type: against the slow step; and
+     * the timeouts by hand */
+    for (uint8_t m = 1; m <= 9; m++)
+        for (uint8_t phase = 1; phase <= 5; phase++)
+            for (uint8_t t = 0; t <= m + 1; t++)
+                for (int column = 0; column < 7; column++)
+                    for (int place = 0; place < 4; place++)
+                        for (int side = 0; side < 4; side++) {
+                            const uint32_t who = (side & 1 ? 0x01000000u : 0) | 0x00010203;
+                            State s = cold_n(1, 2, m);
+                            s.last = m % 2 ? 0x01000000u | who : 0;
+                            hold(&s, place, phase, side >> 1, t, who);
+                            uint8_t r[7], a[20];
+                            const size_t n = column_record(r, column, who, column == 4 ? 0x2F : column == 5 ? 0x30 : 0);
+                            State before = s;
+                            const bool tries = phase == OPEN ? t == 0 : t >= 1 && t <= m;
+                            const bool ok = tries && !(side >> 1 && (side & 1 || phase <= 2));
+                            CHECK(sound(&s) == ok);
+                            CHECK(agree(&s, r, n));
+                            if (!ok || column != 3) continue;
+                            const StepResult x = step(&before, r, n, a, 20);
+                            if (phase == OPEN) CHECK(x.code == 7);
+                            else if (t == m) CHECK(x.code == 0 && x.count == 1 && a[0] == 22 && before.phase[place] == FREE);
+                            else CHECK(x.code == 0 && x.count == 1 && a[0] != 22 && before.tries[place] == t + 1);
                         }
     /* a partner without a place: 6 for every column, also RBC 0 with free places */
     for (int column = 0; column < 7; column++)
@@ -543,7 +607,7 @@ static void table_cells(void)
             uint8_t r[7];
             const size_t n = column_record(r, column, partners[k], 0);
             CHECK(takes(&s, r, n, 6, 0));
-            hold(&s, 1, OPEN, OUTGOING, 0, partners[k] ^ 0x01000000);
+            hold(&s, 1, OPEN, OUTGOING, 0, partners[k] ^ (partners[k] % 16384 == 16383 ? 0x01000001 : 0x01000000));
             CHECK(takes(&s, r, n, 6, 0));
         }
     /* judging, every range of X and every version */
@@ -558,6 +622,7 @@ static void table_cells(void)
                 } else if (lo <= x && x <= hi) {
                     CHECK(takes(&s, REC(11, 0, 0, 0, 9, 32, (uint8_t)v), 0, 1, 159, 9));
                     hold(&w, 2, OPEN, OUTGOING, 0, 9);
+                    w.last = 0x01000009;
                     CHECK(same(&s, &w));
                 } else {
                     CHECK(takes(&s, REC(11, 0, 0, 0, 9, 32, (uint8_t)v), 0, 2, 154, 9, 156, 9));
@@ -787,22 +852,26 @@ static void refusals(void)
     CHECK(takes(&s, REC(8, 0, 0, 0, 7), 6, 0));
     CHECK(takes(&s, REC(8, 1, 0, 0, 7), 7, 0));
 
-    /* cold start */
+    /* cold start: with n, and with the default, which is 5 */
     for (int lo = 0; lo < 256; lo++)
-        for (int hi = 0; hi < 256; hi++) {
-            State g, w;
-            memset(&g, 0xAA, sizeof g);
-            memset(&w, 0, sizeof w);
-            const uint8_t code = cold_start(&g, (uint8_t)lo, (uint8_t)hi);
-            if (lo <= 7 && hi <= 7 && lo <= hi) {
-                w.lowest = (uint8_t)lo;
-                w.highest = (uint8_t)hi;
-                CHECK(code == 0);
-            } else {
-                CHECK(code == 13);
+        for (int hi = 0; hi < 256; hi++)
+            for (int n = -1; n < 256; n += n < 12 || n > 250 ? 1 : 1 + (lo + hi) % 30) {
+                State g, w;
+                memset(&g, 0xAA, sizeof g);
+                memset(&w, 0, sizeof w);
+                w.n = 3;
+                const uint8_t code = n < 0 ? cold_start_default(&g, (uint8_t)lo, (uint8_t)hi)
+                                           : cold_start(&g, (uint8_t)lo, (uint8_t)hi, (uint8_t)n);
+                if (lo <= 7 && hi <= 7 && lo <= hi && n != 0 && n <= 9) {
+                    w.lowest = (uint8_t)lo;
+                    w.highest = (uint8_t)hi;
+                    w.n = (uint8_t)(n < 0 ? 5 : n);
+                    CHECK(code == 0);
+                } else {
+                    CHECK(code == 13);
+                }
+                CHECK(same(&g, &w) && sound(&g));
             }
-            CHECK(same(&g, &w) && sound(&g));
-        }
 
     /* level, mission, mode, hole, over every small state */
     for (uint8_t level = 0; level < 5; level++)
@@ -871,7 +940,7 @@ static void random_sound(Rng *g, State *s)
 {
     uint8_t lo, hi;
     gen_x(g, &lo, &hi);
-    *s = cold(lo, hi);
+    *s = cold_n(lo, hi, gen_n(g));
     s->level = (uint8_t)rng_below(g, 5);
     s->mission = (uint8_t)rng_below(g, 3);
     s->mode = (uint8_t)rng_below(g, 2);
@@ -879,63 +948,98 @@ static void random_sound(Rng *g, State *s)
     const uint32_t hole = rng_below(g, 3);
     s->inside = hole == 1;
     s->hole_end = hole == 2;
+    if (rng_below(g, 3) != 0) {                /* known: a small number, like those of the places */
+        const uint32_t d = rng_below(g, 4);
+        s->last = 0x01000000 | (d == 0 ? rng_below(g, 1u << 24) : rng_below(g, 6));
+        if (s->last % 16384 == 16383) s->last ^= 1u << rng_below(g, 14);
+    }
     for (int i = 0; i < 4; i++) {
         if (rng_below(g, 4) == 0) continue;
         uint32_t who;
         bool again;
         do {
             who = rng_below(g, 2) << 24;
-            who |= rng_below(g, 4) == 0 ? rng_below(g, 1u << 24) : rng_below(g, 6);
-            again = false;
+            const uint32_t d = rng_below(g, 8);
+            who |= d < 2 ? rng_below(g, 1u << 24) : d == 2 ? rng_below(g, 1024) << 14 | 16383 : rng_below(g, 6);
+            again = who >> 24 == 0 && who % 16384 == 16383;
             for (int j = 0; j < i; j++)
                 if (s->phase[j] != FREE && s->partner[j] == who) again = true;
         } while (again);
         const uint8_t phase = (uint8_t)(1 + rng_below(g, 5));
         const uint8_t direction = phase >= 3 && who >> 24 == RBC ? (uint8_t)rng_below(g, 2) : 0;
-        hold(s, i, phase, direction, phase == OPEN ? 0 : (uint8_t)(1 + rng_below(g, 3)), who);
+        hold(s, i, phase, direction, phase == OPEN ? 0 : (uint8_t)(1 + rng_below(g, s->n)), who);
     }
 }
 
+/* An unsound state: 11 from a step, the runs and both writers, but 10 before it. */
+static void check_unsound(State s)
+{
+    const State before = s;
+    uint8_t a[50];
+    RunResult o;
+    memset(a, 0xEE, sizeof a);
+    const StepResult r = step(&s, REC(3), a, 20);
+    CHECK(r.code == 11 && r.count == 0 && same(&s, &before) && a[0] == 0xEE);
+    for (int f = 0; f < 2; f++) {
+        memset(&o, 0x33, sizeof o);
+        (f ? run_once : run_checked)(&s, (const uint8_t[]){3}, 1, 1, &o);
+        CHECK(same(&s, &before) && o.code == 11 && !(o.stop | o.offset | o.read | o.refused));
+        for (int i = 0; i < 6; i++) CHECK(o.total[i] == 0);
+        memset(&o, 0x33, sizeof o);
+        (f ? run_once : run_checked)(&s, NULL, 0, 0, &o);
+        CHECK(o.code == 11);
+    }
+    CHECK(image_write(&s, a, 41) == 10 && image_write(&s, a, 42) == 11);
+    CHECK(image_write_old(&s, a, 36) == 10 && image_write_old(&s, a, 37) == 11);
+    for (size_t i = 0; i < sizeof a; i++) CHECK(a[i] == 0xEE);
+}
+
+/* 42 bytes, read as an image of either kind: of A1 the first 37. */
 static void check_image(const uint8_t *b)
 {
     State s, before;
-    uint8_t out[40];
-    image_load(&s, b);
-    const bool ok = slow_sound(b);
-    CHECK(sound(&s) == (b[0] == 0xA1 ? ok : sound(&s)));
+    uint8_t out[48], full[42];
+    const bool old = b[0] == 0xA1;
+    memcpy(full, b, 42);
+    if (old) {                              /* what an A1 image means, as an A2 image */
+        full[0] = 0xA2;
+        full[37] = 3;
+        memset(full + 38, 0, 4);
+    }
+    if (old) image_load_old(&s, b);
+    else image_load(&s, b);
+    const bool ok = slow_sound(full);
+    if (full[0] == 0xA2) CHECK(sound(&s) == ok);
     memset(&before, 0x55, sizeof before);
-    State g = before;
-    const uint8_t code = image_read(&g, b, 37);
-    CHECK(code == (b[0] != 0xA1 ? 2 : ok ? 0 : 11));
+    State g = before, h = before;
+    const uint8_t code = image_read(&g, b, old ? 37 : 42), new_code = image_read_new(&h, b, old ? 37 : 42);
+    CHECK(code == (b[0] != 0xA1 && b[0] != 0xA2 ? 2 : ok ? 0 : 11));
+    CHECK(new_code == (b[0] != 0xA2 ? 2 : ok ? 0 : 11));
     const State zero = cold(0, 0);
     CHECK(code == 0 ? same(&g, &s) : same(&g, &zero));
-    if (b[0] != 0xA1) return;
-    memset(out, 0xEE, sizeof out);
-    before = s;
-    CHECK(image_write(&s, out, 40) == (ok ? 0 : 11));
-    CHECK(same(&s, &before));
-    for (int i = ok ? 37 : 0; i < 40; i++) CHECK(out[i] == 0xEE);
-    if (ok) {
-        CHECK(memcmp(out, b, 37) == 0);
-        memset(out, 0xEE, sizeof out);
-        CHECK(image_write(&s, out, 37) == 0 && memcmp(out, b, 37) == 0);
-    } else {
-        RunResult o;
-        uint8_t a[20];
-        memset(a, 0xEE, sizeof a);
-        const StepResult r = step(&s, REC(3), a, 20);
-        CHECK(r.code == 11 && r.count == 0 && same(&s, &before) && a[0] == 0xEE);
-        for (int f = 0; f < 2; f++) {
-            memset(&o, 0x33, sizeof o);
-            (f ? run_once : run_checked)(&s, (const uint8_t[]){3}, 1, 1, &o);
-            CHECK(same(&s, &before) && o.code == 11 && !(o.stop | o.offset | o.read | o.refused));
-            for (int i = 0; i < 6; i++) CHECK(o.total[i] == 0);
-            memset(&o, 0x33, sizeof o);
-            (f ? run_once : run_checked)(&s, NULL, 0, 0, &o);
-            CHECK(o.code == 11);
-        }
-        CHECK(image_write(&s, out, 36) == 10);
+    CHECK(new_code == 0 ? same(&h, &s) : same(&h, &zero));
+    if (full[0] != 0xA2) return;
+    if (!ok) {
+        check_unsound(s);
+        return;
     }
+    before = s;
+    memset(out, 0xEE, sizeof out);
+    CHECK(image_write(&s, out, 45) == 0 && memcmp(out, full, 42) == 0 && same(&s, &before));
+    for (int i = 42; i < 48; i++) CHECK(out[i] == 0xEE);
+    memset(out, 0xEE, sizeof out);
+    CHECK(image_write(&s, out, 42) == 0 && memcmp(out, full, 42) == 0);
+    /* back to A1 exactly when n is 3 and none is known; there and back gives the same bytes */
+    const bool fits = full[37] == 3 && full[38] == 0;
+    memset(out, 0xEE, sizeof out);
+    CHECK(image_write_old(&s, out, 36) == 10 && out[0] == 0xEE);
+    CHECK(image_write_old(&s, out, 40) == (fits ? 0 : 16) && same(&s, &before));
+    for (int i = fits ? 37 : 0; i < 48; i++) CHECK(out[i] == 0xEE);
+    if (fits) {
+        CHECK(out[0] == 0xA1 && memcmp(out + 1, full + 1, 36) == 0);
+        CHECK(image_read(&g, out, 37) == 0 && same(&g, &s));
+    }
+    CHECK(!old || (fits && memcmp(out, b, 37) == 0));
 }
 
 static void images(void)
@@ -944,7 +1048,7 @@ static void images(void)
     uint8_t b[48];
     State s;
 
-    /* the layout, by hand */
+    /* the layouts, by hand */
     s = cold(1, 2);
     s.level = 3;
     s.mission = 2;
@@ -952,54 +1056,128 @@ static void images(void)
     s.hole_end = 1;
     hold(&s, 1, LOST, INCOMING, 3, 0x00010203);
     hold(&s, 3, CONTACTING, OUTGOING, 2, 0x01FFFEFD);
-    static const uint8_t want[37] = {
+    uint8_t want[42] = {
         0xA1, 1, 2, 3, 2, 0, 1, 0, 1, 0, 0, 0, 0, 0, 0, 0, 4, 1, 3, 0, 1, 2, 3,
-        0, 0, 0, 0, 0, 0, 0, 2, 0, 2, 1, 0xFF, 0xFE, 0xFD};
-    CHECK(image_write(&s, b, 37) == 0 && memcmp(b, want, 37) == 0);
+        0, 0, 0, 0, 0, 0, 0, 2, 0, 2, 1, 0xFF, 0xFE, 0xFD, 3, 0, 0, 0, 0};
+    CHECK(image_write_old(&s, b, 37) == 0 && memcmp(b, want, 37) == 0);
+    want[0] = 0xA2;
+    CHECK(image_write(&s, b, 42) == 0 && memcmp(b, want, 42) == 0);
+    State known = s;
+    known.n = 7;
+    known.last = 0x010A0B0C;
+    CHECK(image_write(&known, b, 42) == 0 && memcmp(b, want, 37) == 0);
+    CHECK(b[37] == 7 && b[38] == 1 && b[39] == 10 && b[40] == 11 && b[41] == 12);
+    CHECK(image_write_old(&known, b, 37) == 16);
 
     /* refusals of write and read */
-    for (size_t n = 0; n < 37; n++) {
-        State before = s;
-        memset(b, 0xEE, sizeof b);
-        CHECK(image_write(&s, b, n) == 10 && same(&s, &before));
-        for (size_t i = 0; i < sizeof b; i++) CHECK(b[i] == 0xEE);
-    }
+    for (size_t n = 0; n < 42; n++)
+        for (int k = 0; k < 2; k++) {
+            const State *t = k ? &known : &s;
+            const State before = *t;
+            memset(b, 0xEE, sizeof b);
+            CHECK(image_write(t, b, n) == 10 && same(t, &before));
+            for (size_t i = 0; i < sizeof b; i++) CHECK(b[i] == 0xEE);
+            CHECK(image_write_old(t, b, n) == (n < 37 ? 10 : k ? 16 : 0));
+            for (size_t i = n < 37 || k ? 0 : 37; i < sizeof b; i++) CHECK(b[i] == 0xEE);
+        }
     const State zero = cold(0, 0);
-    for (size_t n = 0; n <= 40; n++)
+    for (size_t n = 0; n <= 48; n++)
         for (int kind = 0; kind < 256; kind++) {
-            State t = s;
+            State t, u;
+            memset(&t, 0x99, sizeof t);
+            memset(&u, 0x66, sizeof u);
             memset(b, 0, sizeof b);
-            memcpy(b, want, 37);
+            memcpy(b, want, 42);
             b[0] = (uint8_t)kind;
-            const uint8_t code = image_read(&t, b, n);
-            CHECK(code == (n == 0 ? 1 : kind != 0xA1 ? 2 : n != 37 ? 1 : 0));
+            const uint8_t code = image_read(&t, b, n), new_code = image_read_new(&u, b, n);
+            CHECK(code == (n == 0 ? 1 : kind == 0xA1 ? (n != 37 ? 1 : 0) : kind == 0xA2 ? (n != 42 ? 1 : 0) : 2));
+            CHECK(new_code == (n == 0 ? 1 : kind != 0xA2 ? 2 : n != 42 ? 1 : 0));
             CHECK(code == 0 ? same(&t, &s) : same(&t, &zero));
+            CHECK(new_code == 0 ? same(&u, &s) : same(&u, &zero));
         }
     CHECK(image_read(&s, NULL, 0) == 1);
+    CHECK(image_read_new(&s, NULL, 0) == 1);
 
     /* one place alone: every phase, direction, tries, type near the ranges, and each byte in full */
     for (int phase = 0; phase < 256; phase += phase < 9 ? 1 : 13)
         for (int direction = 0; direction < 256; direction += direction < 5 ? 1 : 17)
-            for (int tries = 0; tries < 256; tries += tries < 8 ? 1 : 19)
+            for (int tries = 0; tries < 256; tries += tries < 12 ? 1 : 19)
                 for (int type = 0; type < 256; type += type < 4 ? 1 : 21)
-                    for (int n = 0; n < 2; n++) {
+                    for (int n = 0; n <= 11; n++) {
+                        if (n % 3 != (phase + direction) % 3 && phase > 6) continue;
                         memset(b, 0, sizeof b);
-                        b[0] = 0xA1;
-                        uint8_t *p = b + 9 + 7 * (n ? 2 : 0);
+                        b[0] = n == 11 ? 0xA1 : 0xA2;
+                        b[37] = (uint8_t)n;
+                        uint8_t *p = b + 9 + 7 * (n % 4);
                         p[0] = (uint8_t)phase;
                         p[1] = (uint8_t)direction;
                         p[2] = (uint8_t)tries;
                         p[3] = (uint8_t)type;
-                        p[6] = (uint8_t)n;
+                        p[6] = (uint8_t)(n % 2);
                         check_image(b);
                     }
+    /* every pair of tries side by side, and n (they are tested four at a time) */
+    for (int i = 0; i < 4; i++)
+        for (int j = 0; j < 4; j++)
+            for (int x = 0; i != j && x < 256; x++)
+                for (int y = 0; y < 256; y++) {
+                    memset(b, 0, sizeof b);
+                    b[0] = 0xA2;
+                    b[37] = (uint8_t)((x + y) % 12);
+                    for (int k = 0; k < 4; k++) {
+                        const uint8_t lost[7] = {4, 0, 1, 0, 0, 0, (uint8_t)k};
+                        memcpy(b + 9 + 7 * k, lost, 7);
+                    }
+                    b[9 + 7 * i + 2] = (uint8_t)x;
+                    b[9 + 7 * j + 2] = (uint8_t)y;
+                    State t;
+                    image_load(&t, b);
+                    CHECK(sound(&t) == slow_sound(b));
+                }
+    /* every number as the last known RBC and in a place, near the reserved ones and elsewhere */
+    for (int kind = 0; kind < 3; kind++)
+        for (uint32_t number = 0; number < 1u << 24; number += (number & 0x3FFF) > 0x3FF8 || (number & 0x3FFF) < 3 ? 1 : 1021) {
+            memset(b, 0, sizeof b);
+            b[0] = 0xA2;
+            b[37] = 5;
+            b[38] = 1;
+            uint8_t *p = b + 39;
+            if (kind > 0) {
+                p = b + 9 + 7 * (number % 4);
+                p[0] = 3;
+                p[3] = kind == 2;
+                p += 4;
+            }
+            p[0] = (uint8_t)(number >> 16);
+            p[1] = (uint8_t)(number >> 8);
+            p[2] = (uint8_t)number;
+            State t;
+            image_load(&t, b);
+            CHECK(sound(&t) == slow_sound(b));
+            CHECK(sound(&t) == (kind == 2 || number % 16384 != 16383));
+        }
+    /* every flag, and bytes behind it */
+    for (int flag = 0; flag < 256; flag++)
+        for (int at = 0; at < 4; at++)
+            for (int value = 0; value < 256; value++) {
+                memset(b, 0, sizeof b);
+                b[0] = 0xA2;
+                b[37] = 3;
+                b[38] = (uint8_t)flag;
+                if (at > 0) b[38 + at] = (uint8_t)value;
+                State t;
+                image_load(&t, b);
+                CHECK(sound(&t) == (flag == 1 || (flag == 0 && (at == 0 || value == 0))));
+                if (value < 2 || value == 255) check_image(b);
+            }
     /* every pair of phase bytes side by side (they are tested four at a time) */
     for (int i = 0; i < 4; i++)
         for (int j = 0; j < 4; j++)
             for (int x = 0; i != j && x < 256; x++)
                 for (int y = 0; y < 256; y++) {
                     memset(b, 0, sizeof b);
-                    b[0] = 0xA1;
+                    b[0] = 0xA2;
+                    b[37] = 3;
                     const uint8_t open[7] = {3, 0, 0, 0, 0, 0, 9};
                     for (int k = 0; k < 4; k++) {
                         memcpy(b + 9 + 7 * k, open, 7);
@@ -1015,13 +1193,19 @@ static void images(void)
     for (int k = 0; k < 300; k++) {
         random_sound(&g, &s);
         CHECK(sound(&s));
-        CHECK(image_write(&s, b, 37) == 0);
+        memset(b, 0, sizeof b);
+        CHECK(image_write(&s, b, 42) == 0);
         check_image(b);
-        for (int i = 0; i < 37; i++) {
+        for (int i = 0; i < 42; i++) {
             const uint8_t keep = b[i];
             for (int v = 0; v < 256; v += (k < 30 ? 1 : 1 + (int)rng_below(&g, 40))) {
                 b[i] = (uint8_t)v;
                 check_image(b);
+                if (i > 0 && b[0] == 0xA2) {   /* the same as an A1 image */
+                    b[0] = 0xA1;
+                    check_image(b);
+                    b[0] = 0xA2;
+                }
             }
             b[i] = keep;
         }
@@ -1029,14 +1213,20 @@ static void images(void)
     for (long k = 0; k < 400000; k++) {
         random_sound(&g, &s);
         image_store(&s, b);
-        for (uint32_t c = rng_below(&g, 4); c > 0; c--)
-        {
-            const uint32_t at = 1 + rng_below(&g, 36);
-            b[at] = (uint8_t)rng_below(&g, rng_below(&g, 8) ? 7 : 256);
+        if (rng_below(&g, 4) == 0) b[0] = 0xA1;
+        for (uint32_t c = rng_below(&g, 4); c > 0; c--) {
+            const uint32_t at = 1 + rng_below(&g, 41);
+            b[at] = (uint8_t)rng_below(&g, rng_below(&g, 8) ? 11 : 256);
         }
         if (rng_below(&g, 3) == 0) {        /* copy a partner */
             const uint32_t from = rng_below(&g, 4), to = rng_below(&g, 4);
             memmove(b + 9 + 7 * to + 3, b + 9 + 7 * from + 3, 4);
+        }
+        if (rng_below(&g, 8) == 0) {        /* the low 14 bits of a number */
+            const uint32_t at = rng_below(&g, 5);
+            uint8_t *const low = at == 4 ? b + 40 : b + 9 + 7 * at + 5;
+            low[0] |= 63;
+            low[1] = 255;
         }
         check_image(b);
     }
@@ -1044,7 +1234,8 @@ static void images(void)
 
 /* ---- random steps against the slow step; from any sound state, and along histories ---- */
 
-static unsigned long hits[6][4][7][2], causes_hit[5][2], order_closed[4], code_hit[14], places_hit[5];
+static unsigned long hits[10][6][10][7][2], causes_hit[5][2], order_closed[4], code_hit[17], places_hit[5];
+static unsigned long last_hit[7], code_last_hit[17];
 
 static void note(const State *before, const uint8_t *r, size_t n, StepResult x)
 {
@@ -1052,7 +1243,12 @@ static void note(const State *before, const uint8_t *r, size_t n, StepResult x)
     int used = 0;
     for (int i = 0; i < 4; i++) used += before->phase[i] != FREE;
     places_hit[used]++;
-    if (x.code == 1 || x.code == 2 || x.code == 3 || n < 5) return;
+    if (x.code == 1 || x.code == 2 || n < 5) return;
+    if (x.code == 3) {
+        if (r[1] == 0 && slow_last(r + 2)) last_hit[r[0] - 5]++;
+        return;
+    }
+    if (r[0] == 5 && r[1] == 0 && slow_last(r + 2)) code_last_hit[x.code]++;
     if (r[0] == 5) {
         causes_hit[r[6]][x.code != 0]++;
         if (x.code == 0) order_closed[x.count - 1]++;
@@ -1064,7 +1260,7 @@ static void note(const State *before, const uint8_t *r, size_t n, StepResult x)
     for (int i = 0; i < 4; i++) {
         const uint8_t p[4] = {P(before->partner[i])};
         if (before->phase[i] != FREE && memcmp(p, r + 1, 4) == 0)
-            hits[before->phase[i]][before->tries[i]][column][before->direction[i]]++;
+            hits[before->n][before->phase[i]][before->tries[i]][column][before->direction[i]]++;
     }
 }
 
@@ -1075,7 +1271,7 @@ static void random_steps(void)
     for (long k = 0; k < 1000000; k++) {
         State s;
         random_sound(&g, &s);
-        const size_t n = gen_record(&g, &s, false, r);
+        const size_t n = gen_record_last(&g, &s, false, r);
         CHECK(agree(&s, r, n));
         CHECK(sound(&s));
     }
@@ -1085,22 +1281,28 @@ static void random_steps(void)
         random_sound(&g, &s);
         if (rng_below(&g, 4) == 0)
         {
-            const uint32_t at = rng_below(&g, sizeof s);
-            ((uint8_t *)&s)[at] = (uint8_t)rng_below(&g, 9);
+            const uint32_t at = rng_below(&g, offsetof(State, zero));
+            ((uint8_t *)&s)[at] = (uint8_t)rng_below(&g, 11);
         }
         for (int i = 0; i < GEN_MOST; i++) r[i] = (uint8_t)rng_below(&g, rng_below(&g, 3) ? 8 : 256);
         r[0] = (uint8_t)rng_below(&g, 14);
         if (rng_below(&g, 2)) memset(r + 2, 0, 2);
+        if (rng_below(&g, 3) == 0) {
+            r[3] |= 63;
+            r[4] = 255;
+        }
         const size_t n = rng_below(&g, 4) ? (r[0] <= 11 ? record_length[r[0]] : 5) : rng_below(&g, 9);
         CHECK(agree(&s, r, n));
     }
-    for (long h = 0; h < 20000; h++) {
+    for (long h = 0; h < 30000; h++) {
         uint8_t lo, hi;
         gen_x(&g, &lo, &hi);
-        State s = cold(lo, hi);
+        const uint8_t m = h % 3 == 0 ? 3 : gen_n(&g);
+        State s = cold_n(lo, hi, m);
         unsigned long orders_in = 0, calls_in = 0, losses = 0, releases = 0, actions = 0;
+        uint32_t last = 0;                      /* by the 159s to RBCs */
         for (int k = 0; k < 80; k++) {
-            const size_t n = gen_record(&g, &s, false, r);
+            const size_t n = gen_record_last(&g, &s, false, r);
             State before = s, twin = s;
             CHECK(agree(&twin, r, n));
             const StepResult x = step(&s, r, n, a, sizeof a);
@@ -1116,8 +1318,14 @@ static void random_steps(void)
                 calls_in += r[0] == 11 && r[5] == 38;
                 losses += r[0] == 9;
                 actions += x.count;
-                for (unsigned i = 0; i < x.count; i++) releases += a[5 * i] == 22;
+                for (unsigned i = 0; i < x.count; i++) {
+                    releases += a[5 * i] == 22;
+                    if (a[5 * i] == 159 && a[5 * i + 1] == 0)
+                        last = 0x01000000 | (uint32_t)a[5 * i + 2] << 16 | (uint32_t)a[5 * i + 3] << 8 | a[5 * i + 4];
+                    CHECK(a[5 * i + 1] != 0 || !slow_last(a + 5 * i + 2));
+                }
             }
+            CHECK(s.last == last && s.n == m && s.lowest == lo && s.highest == hi);
             if (x.code >= 3) {                  /* of a known kind and its length: trusted too */
                 uint8_t b[20];
                 const StepResult y = step_trusted(&before, r, b);
@@ -1126,7 +1334,7 @@ static void random_steps(void)
             /* the property of demand, after each step */
             unsigned long held = 0;
             for (int i = 0; i < 4; i++) held += s.phase[i] != FREE;
-            CHECK(actions <= 11 * orders_in + 5 * calls_in + 3 * losses);
+            CHECK(actions <= (3ul * m + 2) * orders_in + (m + 2ul) * calls_in + m * losses);
             CHECK(orders_in + calls_in == releases + held);
         }
     }
@@ -1134,13 +1342,24 @@ static void random_steps(void)
     for (size_t row = 0; row < sizeof table / sizeof table[0]; row++)
         for (int column = 0; column < 7; column++)
             for (int direction = 0; direction < (table[row].phase >= 3 ? 2 : 1); direction++)
-                CHECK(hits[table[row].phase][table[row].tries][column][direction] >= 20);
+                CHECK(hits[3][table[row].phase][table[row].tries][column][direction] >= 20);
+    for (int m = 1; m <= 9; m++)
+        for (int phase = 1; phase <= 5; phase++)
+            for (int t = phase == 3 ? 0 : 1; t <= (phase == 3 ? 0 : m); t++)
+                for (int column = 0; column < 7; column++)
+                    if (t < 4) CHECK(hits[m][phase][t][column][0] > 0);
+    for (int c = 0; c < 17; c++)
+        CHECK(c == 0 || c == 4 || c == 5 || c == 8 || c == 15 ? code_last_hit[c] >= 100 : code_last_hit[c] == 0);
+    for (int c = 0; c < 7; c++) CHECK(c == 2 ? last_hit[c] == 0 : last_hit[c] >= 100);    /* 7 is end all */
     for (int c = 0; c < 5; c++) CHECK(causes_hit[c][0] >= 1000 && (causes_hit[c][1] >= 1000));
     for (int c = 0; c < 4; c++) CHECK(order_closed[c] >= 100);
     for (int c = 0; c < 10; c++) CHECK(code_hit[c] >= 1000);
     for (int c = 0; c < 5; c++) CHECK(places_hit[c] >= 10000);
     printf("histories: codes 0..9:");
     for (int c = 0; c < 10; c++) printf(" %lu", code_hit[c]);
+    printf(", 15: %lu", code_hit[15]);
+    printf("\n  orders to the last known RBC: taken %lu, 4: %lu, 15: %lu, 5: %lu, 8: %lu", code_last_hit[0],
+           code_last_hit[4], code_last_hit[15], code_last_hit[5], code_last_hit[8]);
     printf("\n  places held before a step 0..4:");
     for (int c = 0; c < 5; c++) printf(" %lu", places_hit[c]);
     printf("\n  orders taken by cause 0..4:");
@@ -1151,23 +1370,145 @@ static void random_steps(void)
     for (size_t row = 0; row < sizeof table / sizeof table[0]; row++)
         for (int column = 0; column < 7; column++)
             for (int d = 0; d < (table[row].phase >= 3 ? 2 : 1); d++)
-                if (hits[table[row].phase][table[row].tries][column][d] < least)
-                    least = hits[table[row].phase][table[row].tries][column][d];
-    printf("\n  the rarest cell of phase, tries, event, direction: %lu times\n", least);
+                if (hits[3][table[row].phase][table[row].tries][column][d] < least)
+                    least = hits[3][table[row].phase][table[row].tries][column][d];
+    printf("\n  the rarest cell of phase, tries, event, direction with n = 3: %lu times\n", least);
 
-    /* the bounds are reached: eleven actions by one order (P10), five by one call, three by a loss */
-    State s = cold(1, 2);
-    unsigned long n = 0;
-    static const uint8_t call[][7] = {{11, 0, 0, 0, 1, 38, 0}, {6, 0, 0, 0, 1}, {10, 0, 0, 0, 1},
-                                      {10, 0, 0, 0, 1}, {10, 0, 0, 0, 1}};
-    for (int i = 0; i < 5; i++) n += step(&s, call[i], record_length[call[i][0]], a, 20).count;
-    CHECK(n == 5);
-    n = step(&s, REC(11, 0, 0, 0, 1, 38, 0), a, 20).count;
-    CHECK(n == 1);
-    static const uint8_t loss[][5] = {{9, 0, 0, 0, 1}, {10, 0, 0, 0, 1}, {10, 0, 0, 0, 1}, {8, 0, 0, 0, 1}};
-    n = 0;
-    for (int i = 0; i < 4; i++) n += step(&s, loss[i], 5, a, 20).count;
-    CHECK(n == 3 && s.phase[0] == OPEN && s.direction[0] == INCOMING && s.tries[0] == 0);
+    /* the bounds are reached for each n: 3n + 2 actions by one order, n + 2 by one call, n by a loss;
+     * n timeouts end what began with one try */
+    for (uint8_t m = 1; m <= 9; m++) {
+        State s = cold_n(1, 2, m);
+        const uint8_t timeout[5] = {10, 0, 0, 0, 1};
+        int n = step(&s, REC(5, 0, 0, 0, 1, 1, 1), a, 20).count;
+        for (int i = 1; i < m; i++) n += step(&s, timeout, 5, a, 20).count;
+        n += step(&s, REC(8, 0, 0, 0, 1), a, 20).count;
+        for (int i = 1; i < m; i++) n += step(&s, timeout, 5, a, 20).count;
+        n += step(&s, REC(11, 0, 0, 0, 1, 32, 0x11), a, 20).count;
+        n += step(&s, REC(6, 0, 0, 0, 1), a, 20).count;
+        for (int i = 1; i < m; i++) n += step(&s, timeout, 5, a, 20).count;
+        CHECK(n == 3 * m + 1 && s.phase[0] == ENDING && s.tries[0] == m);
+        n += step(&s, timeout, 5, a, 20).count;
+        CHECK(n == 3 * m + 2 && a[0] == 22 && s.phase[0] == FREE);
+
+        n = step(&s, REC(11, 0, 0, 0, 1, 38, 0), a, 20).count;
+        n += step(&s, REC(6, 0, 0, 0, 1), a, 20).count;
+        for (int i = 1; i < m; i++) n += step(&s, timeout, 5, a, 20).count;
+        CHECK(s.phase[0] == ENDING);
+        n += step(&s, timeout, 5, a, 20).count;
+        CHECK(n == m + 2 && s.phase[0] == FREE);
+
+        n = step(&s, REC(11, 0, 0, 0, 1, 38, 0), a, 20).count;
+        CHECK(n == 1);
+        n = step(&s, REC(9, 0, 0, 0, 1), a, 20).count;
+        for (int i = 1; i < m; i++) n += step(&s, timeout, 5, a, 20).count;
+        n += step(&s, REC(8, 0, 0, 0, 1), a, 20).count;
+        CHECK(n == m && s.phase[0] == OPEN && s.direction[0] == INCOMING && s.tries[0] == 0);
+        step(&s, REC(9, 0, 0, 0, 1), a, 20);
+        n = 0;
+        while (s.phase[0] != FREE) n += step(&s, timeout, 5, a, 20).count;
+        CHECK(n == m);
+
+        static const uint8_t from[2] = {CONNECTING, CONTACTING};
+        for (int k = 0; k < 2; k++) {
+            step(&s, REC(5, 0, 0, 0, 1, 1, 1), a, 20);
+            if (k == 1) step(&s, REC(8, 0, 0, 0, 1), a, 20);
+            CHECK(s.phase[0] == from[k] && s.tries[0] == 1);
+            n = 0;
+            while (s.phase[0] != FREE) n += step(&s, timeout, 5, a, 20).count;
+            CHECK(n == m);
+        }
+    }
+}
+
+/* ---- the last known RBC ---- */
+
+static void last_known(void)
+{
+    static const uint32_t number[] = {0x003FFF, 0x007FFF, 0x00BFFF, 0x00FFFF, 0x013FFF, 0x803FFF, 0xFFFFFF, 0x5A7FFF};
+    enum { N = sizeof number / sizeof number[0] };
+    uint8_t a[20];
+    for (int k = 0; k < N; k++)
+        for (uint8_t accepting = 0; accepting < 2; accepting++) {
+            const uint32_t like = number[k];
+            /* none known: 4, then 15; also with all places taken */
+            State s = cold_n(1, 2, 5), w;
+            CHECK(takes(&s, REC(5, P(like), accepting, 0), 4, 0));
+            CHECK(takes(&s, REC(5, P(like), accepting, 1), 15, 0));
+            CHECK(takes(&s, REC(5, P(like), 2, 1), 3, 0));
+            CHECK(takes(&s, REC(5, P(like), accepting, 5), 3, 0));
+            for (uint8_t i = 0; i < 4; i++) hold(&s, i, LOST, INCOMING, 5, 7u + i);
+            s.hole_end = 1;
+            CHECK(takes(&s, REC(5, P(like), accepting, 4), 15, 0));
+            /* an RIU of that number is a partner like any other, and its 159 makes none known */
+            s = cold_n(1, 2, 5);
+            CHECK(takes(&s, REC(5, P(0x01000000 | like), accepting, 1), 0, 1, 21, 0x01000000 | like));
+            CHECK(takes(&s, REC(8, P(0x01000000 | like)), 0, 1, 155, 0x01000000 | like));
+            CHECK(takes(&s, REC(11, P(0x01000000 | like), 32, 0x11), 0, 1, 159, 0x01000000 | like));
+            CHECK(s.last == 0 && sound(&s));
+            CHECK(takes(&s, REC(5, P(like), accepting, 1), 15, 0));
+            /* no other event may name it */
+            static const uint8_t kind[4] = {6, 8, 9, 10};
+            for (int i = 0; i < 4; i++) CHECK(takes(&s, REC(kind[i], P(like)), 3, 0));
+            for (uint8_t m = 32; m < 40; m++) CHECK(takes(&s, REC(11, P(like), m, 0), 3, 0));
+            /* a call makes one known; refused calls and the 154 do not */
+            CHECK(takes(&s, REC(11, P(0x01000004u), 38, 0), 9, 0));
+            CHECK(s.last == 0);
+            CHECK(takes(&s, REC(11, P(4u), 38, 0), 0, 1, 159, 4));
+            CHECK(s.last == 0x01000004);
+            CHECK(refuses(&s, REC(5, P(like), accepting, 1), 5, 1, OPEN));
+            CHECK(takes(&s, REC(9, P(4u)), 0, 1, 21, 4));
+            CHECK(refuses(&s, REC(5, P(like), accepting, 1), 5, 1, LOST));
+            CHECK(takes(&s, REC(6, P(4u)), 0, 1, 22, 4));
+            w = s;
+            hold(&w, 1, CONNECTING, OUTGOING, 1, 4);
+            CHECK(takes(&s, REC(5, P(like), accepting, 1), 0, 1, 21, 4));
+            CHECK(same(&s, &w));
+            CHECK(takes(&s, REC(11, P(6u), 38, 0), 0, 1, 159, 6));
+            CHECK(s.last == 0x01000006);
+            CHECK(takes(&s, REC(8, P(4u)), 0, 1, 155, 4));
+            CHECK(takes(&s, REC(11, P(4u), 32, 0x30), 0, 2, 154, 4, 156, 4));
+            CHECK(s.last == 0x01000006);
+            CHECK(takes(&s, REC(2, 0), 0, 2, 156, 0x01000000 | like, 156, 6));
+            CHECK(takes(&s, REC(11, P(4u), 39, 0), 0, 1, 22, 4));
+            CHECK(takes(&s, REC(11, P(6u), 39, 0), 0, 1, 22, 6));
+            CHECK(s.last == 0x01000006);
+            /* not accepting closes the RBCs in Open and Lost */
+            hold(&s, 2, OPEN, INCOMING, 0, 4);
+            hold(&s, 3, LOST, INCOMING, 2, 5);
+            if (accepting) CHECK(takes(&s, REC(5, P(like), 1, 1), 0, 1, 21, 6));
+            else CHECK(takes(&s, REC(5, P(like), 0, 1), 0, 3, 156, 4, 22, 5, 21, 6));
+            CHECK(s.partner[1] == 6 && s.phase[1] == CONNECTING && s.last == 0x01000006);
+            /* RBC 0 is known too */
+            s = cold_n(1, 2, 1);
+            CHECK(takes(&s, REC(11, P(0u), 38, 0), 0, 1, 159, 0));
+            CHECK(s.last == 0x01000000);
+            CHECK(takes(&s, REC(9, P(0u)), 0, 1, 21, 0));
+            CHECK(takes(&s, REC(10, P(0u)), 0, 1, 22, 0));
+            CHECK(takes(&s, REC(5, P(like), accepting, 1), 0, 1, 21, 0));
+            /* it is held by no sound state */
+            for (int i = 0; i < 4; i++) {
+                State t = cold_n(1, 2, 5);
+                hold(&t, i, OPEN, OUTGOING, 0, like);
+                CHECK(!sound(&t));
+                check_unsound(t);
+                hold(&t, i, OPEN, OUTGOING, 0, 0x01000000 | like);
+                CHECK(sound(&t));
+                t.last = 0x01000000 | like;
+                CHECK(!sound(&t));
+                check_unsound(t);
+                CHECK(step(&t, REC(5, P(like), accepting, 1), a, 20).code == 11);
+            }
+        }
+    /* every number: it means the last known one exactly with all of the low 14 bits */
+    for (uint32_t v = 0; v < 1u << 24; v += 1 + (v * 2654435761u >> 28)) {
+        const uint32_t who = v % 5 == 0 ? v | 0x3FFF : v;
+        State s = cold(1, 2);
+        const StepResult x = step(&s, REC(5, P(who), 1, 1), a, 20);
+        CHECK(x.code == (who % 16384 == 16383 ? 15 : 0));
+        s = cold(1, 2);
+        const StepResult y = step(&s, REC(11, P(who), 38, 0), a, 20);
+        CHECK(y.code == (who % 16384 == 16383 ? 3 : 0));
+    }
 }
 
 /* ---- runs ---- */
@@ -1208,7 +1549,7 @@ static bool same_run(const RunResult *a, const RunResult *b)
 static RunResult check_run(const State *s, const uint8_t *log, size_t n, size_t budget)
 {
     State a = *s, b = *s;
-    uint8_t image[37], ia[37], ib[37];
+    uint8_t image[42], ia[42], ib[42];
     RunResult w, x, y;
     memset(&x, 0x5A, sizeof x);
     memset(&y, 0xA5, sizeof y);
@@ -1220,7 +1561,7 @@ static RunResult check_run(const State *s, const uint8_t *log, size_t n, size_t 
     image_store(&b, ib);
     CHECK(same_run(&w, &x));
     CHECK(same_run(&w, &y));
-    CHECK(memcmp(image, ia, 37) == 0 && memcmp(image, ib, 37) == 0);
+    CHECK(memcmp(image, ia, 42) == 0 && memcmp(image, ib, 42) == 0);
     return w;
 }
 
@@ -1253,6 +1594,10 @@ static void runs(void)
     CHECK(o.stop == 2 && o.offset == 1);
     o = check_run(&s, (const uint8_t[]){4, 0, 4, 2, 4, 1}, 6, 9); /* refused 7, refused 3, taken */
     CHECK(o.stop == 0 && o.offset == 6 && o.read == 3 && o.refused == 2);
+    static const uint8_t to_last[] = {5, 0, 0, 0x3F, 0xFF, 1, 1, 11, 0, 0, 0, 7, 38, 0, 5, 0, 0, 0x3F, 0xFF, 1, 1,
+                                      9, 0, 0, 0, 7, 6, 0, 0, 0, 7, 5, 0, 1, 0x7F, 0xFF, 1, 1};
+    o = check_run(&s, to_last, sizeof to_last, 9);                /* 15, 159, 5, 21, 22, 21 */
+    CHECK(o.stop == 0 && o.read == 6 && o.refused == 2 && o.total[0] == 2 && o.total[1] == 1 && o.total[5] == 1);
 
     /* sizes; 12 before 11 */
     memset(big, 3, sizeof big);
@@ -1276,7 +1621,7 @@ static void runs(void)
         size_t n = 0;
         for (uint32_t c = rng_below(&g, 60); c > 0; c--) {
             uint8_t r[GEN_MOST], a[20];
-            const size_t m = gen_record(&g, &t, rng_below(&g, 50) != 0, r);
+            const size_t m = gen_record_last(&g, &t, rng_below(&g, 50) != 0, r);
             step(&t, r, m, a, 20);
             memcpy(big + n, r, m);
             n += m;
@@ -1290,7 +1635,7 @@ static void runs(void)
         uint8_t r[GEN_MOST], a[20];
         size_t n = 0;
         while (n < LOG_MOST) {
-            size_t m = deep ? gen_record(&g, &t, true, r) : gen_even(&g, r);
+            size_t m = deep ? gen_record_last(&g, &t, true, r) : gen_even(&g, r);
             if (m > LOG_MOST - n) m = LOG_MOST - n;
             else step_trusted(&t, r, a);
             memcpy(big + n, r, m);
@@ -1331,9 +1676,13 @@ static void sheets(void)
     CHECK(sheet_gives(example, 3, "rec kind code actions\nend 2 0\n"));
     CHECK(sheet_gives((const uint8_t *)"\x03\x00", 2, "rec kind code actions\n1 3 0\nend 3 1\n"));
     CHECK(sheet_gives((const uint8_t *)"\x04\x00\x01\x05\x00", 5, "rec kind code actions\n1 4 7\n2 1 3\nend 0 2\n"));
-    CHECK(sheet_gives((const uint8_t *)"\x05\x00\xFF\xFF\xFF\x00\x01\x05\x01\x01\x02\x03\x00\x01\x07\x01", 16,
-                      "rec kind code actions\n1 5 0 21:0/16777215\n2 5 0 21:1/66051\n"
-                      "3 7 0 22:0/16777215 22:1/66051\nend 0 3\n"));
+    CHECK(sheet_gives((const uint8_t *)"\x05\x00\xFF\xFF\xFE\x00\x01\x05\x01\xFF\xFF\xFF\x00\x01\x07\x01", 16,
+                      "rec kind code actions\n1 5 0 21:0/16777214\n2 5 0 21:1/16777215\n"
+                      "3 7 0 22:0/16777214 22:1/16777215\nend 0 3\n"));
+    CHECK(sheet_gives((const uint8_t *)"\x05\x00\xFF\xFF\xFF\x00\x01\x08\x00\xFF\xFF\xFF", 12,
+                      "rec kind code actions\n1 5 15\n2 8 3\nend 0 2\n"));
+    CHECK(sheet_gives((const uint8_t *)"\x05\x00\x00\x00\x05\x01\x01\x0A\x00\x00\x00\x05\x0A\x00\x00\x00\x05\x0A\x00\x00\x00\x05", 22,
+                      "rec kind code actions\n1 5 0 21:0/5\n2 10 0 21:0/5\n3 10 0 21:0/5\n4 10 0 22:0/5\nend 0 4\n"));
     static uint8_t many[4097];
     static char want[1 << 17];
     memset(many, 3, sizeof many);
@@ -1352,6 +1701,7 @@ int main(void)
     refusals();
     images();
     random_steps();
+    last_known();
     runs();
     sheets();
     printf("%lu checks, %lu failures\n", checks, failures);

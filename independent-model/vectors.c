@@ -1,24 +1,50 @@
-/* Test vectors of document 01, computed by the model.
+/* Test vectors of document 01 with the requests Q-2, Q-3, Q-4 and Q-6 of document 02, computed by
+ * the model.
  *   vectors list                     the number of vectors and bytes of each group
  *   vectors write FILE               all vectors
+ *   vectors write-full FILE          the same, and an A1 image's bytes at all 256 values
  *   vectors write-small FILE SPOIL   a few of each group; SPOIL k > 0: one byte of an
  *                                    expectation of the k-th vector of the file is wrong;
- *                                    1000 + k: its place byte, 2000 + k: its phase byte
+ *                                    1000 + k: its place byte, 2000 + k: its phase byte,
+ *                                    3000 + k: n of an expected state, 4000 + k: a byte of the
+ *                                    last known RBC of an expected state (a mix has no n)
  *
  * A vector is the length of its body (2 bytes, big-endian) and the body: group, operation,
- * operands, expectations. What a step answers stands as code, count, place, phase (request Q-6)
- * in this order. Where the code, or the place and phase, to be expected were written down by hand
- * here, they are compared with the model's; place and phase of every step are compared with a
- * plain second reading too. A difference ends the program. */
+ * operands, expectations. A state is 41 bytes, those of an A2 image behind its kind; flag and
+ * number of its last known RBC are 0 and three zeros, or 1 and any three. What a step answers
+ * stands as code, count, place, phase (request Q-6) in this order. The operations, with the
+ * expectations behind the semicolon (length and count 1 byte, if not said otherwise):
+ *    1 COLD_START    lowest, highest, n; code, state
+ *    2 STEP          state, record length, record, buffer length, fill; answer, state, buffer
+ *    3 STORE         (A2) state, buffer length, fill; code, count of bytes, state, buffer
+ *    4 LOAD          (A2 or A1) length, bytes; code, state
+ *    5 RUN           state, budget (4), log length (2), log; code, stop, offset, read, refused
+ *                    and six totals (4 each), state
+ *    6 LONG_RUN      state, budget (4), log length (4), pattern length, pattern; as for a run
+ *    7 HISTORY       lowest, highest, n, number of records (2), each record: length, record;
+ *                    answer, actions; at the end: state
+ *    8 MIXES         eight bytes of a state, its places 0 and 1, its last five bytes, record
+ *                    length, record; 121 times, for places 2 and 3 by 'choice': answer, actions,
+ *                    four places, flag and number of the last known RBC
+ *    9 COLD_DEFAULT  lowest, highest; code, state
+ *   10 STORE_OLD     (A1) as STORE
+ *   11 LOAD_NEW      (A2 alone) as LOAD
+ *
+ * Where the code, the place and phase, or all of an answer to be expected were written down by
+ * hand here, they are compared with the model's; place and phase of every step, and the soundness
+ * of every state, are compared with a plain second reading too. A difference ends the program. */
 #include "gen.h"
 
 #include <stdio.h>
 #include <stdlib.h>
 #include <string.h>
 
-enum { GROUPS = 9, BODY_MOST = 8000, STATE_BYTES = IMAGE_BYTES - 1, ANY = 255 };
-enum { SPOIL_PLACE = 1000, SPOIL_PHASE = 2000 };
-enum { OP_COLD = 1, OP_STEP, OP_WRITE, OP_READ, OP_RUN, OP_LONG, OP_HISTORY, OP_MIX, OPS = OP_MIX };
+enum { GROUPS = 12, BODY_MOST = 8000, STATE_BYTES = IMAGE_BYTES - 1, ANY = 255 };
+enum { SPOIL_ONE, SPOIL_PLACE, SPOIL_PHASE, SPOIL_N, SPOIL_LAST, SPOIL_PART = 1000 };
+enum {
+    OP_COLD = 1, OP_STEP, OP_STORE, OP_LOAD, OP_RUN, OP_LONG, OP_HISTORY, OP_MIX, OP_COLD_DEFAULT,
+    OP_STORE_OLD, OP_LOAD_NEW, OPS = OP_LOAD_NEW
+};
 
 typedef struct {
     uint8_t group, op;
@@ -29,14 +55,17 @@ typedef struct {
     uint32_t place_at;          /* an expected place, the phase behind it, 0: none; of a refusal
                                  * that tells where the partner stands, if there is one */
     bool tells;                 /* it is of such a refusal */
+    uint32_t n_at, last_at;     /* n of an expected state, the flag of its last known RBC, 0: none */
+    uint64_t mixed;             /* a hash of the body */
 } Vector;
 
-static uint8_t bytes[4u << 20];
+static uint8_t bytes[8u << 20];
 static size_t used;
-static Vector vectors[30000];
+static Vector vectors[60000];
 static size_t count;
 static const char *const group_name[GROUPS + 1] = {
     "", "cells", "refusals", "fields", "orders", "unsound", "images", "buffers", "runs", "histories",
+    "tries", "last", "kinds",
 };
 
 static void fail(const char *why)
@@ -77,8 +106,11 @@ static void begin(int group, int op)
 
 static void end(void)
 {
-    for (size_t i = count; now.op < OP_HISTORY && i-- > 0 && vectors[i].group == now.group;)
-        if (vectors[i].length == n && memcmp(bytes + vectors[i].at, body, n) == 0)
+    now.mixed = n;
+    for (size_t i = 0; i < n; i++)
+        now.mixed = (now.mixed ^ body[i]) * 0x100000001B3u;
+    for (size_t i = count; now.op != OP_HISTORY && now.op != OP_MIX && i-- > 0 && vectors[i].group == now.group;)
+        if (vectors[i].mixed == now.mixed && vectors[i].length == n && memcmp(bytes + vectors[i].at, body, n) == 0)
             return;                        /* there already */
     if (used + 2 + n > sizeof bytes || count == sizeof vectors / sizeof vectors[0])
         fail("too many vectors");
@@ -102,7 +134,7 @@ static bool holdable(const State *s)
         if (s->phase[i] == FREE && (s->direction[i] || s->tries[i] || s->partner[i]))
             return false;
     }
-    return true;
+    return s->last == 0 || s->last >> 24 == 1;
 }
 
 static bool plainly_sound(const uint8_t *image);
@@ -123,6 +155,8 @@ static void code(unsigned v) { now.code_at = (uint32_t)n; u8(v); }
 static void state_expected(const State *s)
 {
     now.state_at = (uint32_t)n + 2;        /* the level */
+    now.n_at = (uint32_t)n + 36;
+    now.last_at = (uint32_t)n + 37;
     state(s);
 }
 
@@ -137,21 +171,35 @@ static void compare(unsigned got, unsigned want)
     }
 }
 
-/* Request Q-6, read off the image before the step and the record's bytes: 5, and 7 of an event
- * that is no hole, tell the one place that holds the record's partner, and its phase; every
- * other answer tells 4 and 0. A check on the model, which carries them along from its search. */
+/* An RBC's three number bytes whose low 14 bits are all one. */
+static bool plainly_last(const uint8_t *number)
+{
+    return number[2] == 255 && (number[1] == 63 || number[1] == 127 || number[1] == 191 || number[1] == 255);
+}
+
+/* Request Q-6, read off the A2 image before the step and the record's bytes: 5, and 7 of an event
+ * that is no hole, tell the one place that holds the record's partner, or the one an order to the
+ * last known RBC means, and its phase; every other answer tells 4 and 0. A check on the model,
+ * which carries them along from its search. */
 static void plainly_standing(const uint8_t *image, const uint8_t *r, unsigned code, unsigned told[2])
 {
     unsigned places = 0;
+    uint8_t who[4];
     told[0] = 4;
     told[1] = 0;
     if (code != 5 && code != 7)
         return;
     if (r[0] == EV_HOLE)
         return;
+    memcpy(who, r + 1, 4);
+    if (r[1] == 0 && plainly_last(r + 2)) {
+        if (r[0] != EV_ORDER || image[38] != 1)
+            fail("5 or 7, but the partner cannot be named or is not known");
+        memcpy(who + 1, image + 39, 3);
+    }
     for (unsigned i = 4; i-- > 0;) {
         const uint8_t *const p = image + 9 + 7 * i;
-        if (p[0] != 0 && p[3] == r[1] && p[4] == r[2] && p[5] == r[3] && p[6] == r[4]) {
+        if (p[0] != 0 && memcmp(p + 3, who, 4) == 0) {
             told[0] = i;
             told[1] = p[0];
             places++;
@@ -182,14 +230,42 @@ static void answer(const State *before, const uint8_t *r, StepResult x)
 
 /* ---- one vector of each operation ---- */
 
-static void cold_vector(int group, unsigned lowest, unsigned highest, unsigned want)
+/* A cold state by hand: X numbers and n, all else zero; refused, X from 0 to 0 and n = 3. */
+static void compare_cold(const State *s, unsigned c, unsigned lowest, unsigned highest, unsigned tries)
+{
+    uint8_t image[IMAGE_BYTES], want[IMAGE_BYTES] = {0xA2};
+    want[1] = (uint8_t)(c == 0 ? lowest : 0);
+    want[2] = (uint8_t)(c == 0 ? highest : 0);
+    want[37] = (uint8_t)(c == 0 ? tries : 3);
+    image_store(s, image);
+    if (memcmp(image, want, sizeof want) != 0)
+        fail("another cold state by hand");
+}
+
+static void cold_vector(int group, unsigned lowest, unsigned highest, unsigned tries, unsigned want)
 {
     State s;
     begin(group, OP_COLD);
     u8(lowest);
     u8(highest);
-    const uint8_t c = cold_start(&s, (uint8_t)lowest, (uint8_t)highest);
+    u8(tries);
+    const uint8_t c = cold_start(&s, (uint8_t)lowest, (uint8_t)highest, (uint8_t)tries);
     compare(c, want);
+    compare_cold(&s, c, lowest, highest, tries);
+    code(c);
+    state_expected(&s);
+    end();
+}
+
+static void cold_default_vector(int group, unsigned lowest, unsigned highest, unsigned want)
+{
+    State s;
+    begin(group, OP_COLD_DEFAULT);
+    u8(lowest);
+    u8(highest);
+    const uint8_t c = cold_start_default(&s, (uint8_t)lowest, (uint8_t)highest);
+    compare(c, want);
+    compare_cold(&s, c, lowest, highest, 5);
     code(c);
     state_expected(&s);
     end();
@@ -251,27 +327,59 @@ static void step_vector(int group, const State *s, const uint8_t *r, size_t leng
     step_in(group, s, r, length, ACTION_BUFFER, next_fill(), want);
 }
 
-static void write_vector(int group, const State *s, size_t buffer, unsigned fill, unsigned want)
+static void store_as(int group, const State *s, size_t buffer, unsigned fill, unsigned want, bool old)
 {
     uint8_t image[256];
-    begin(group, OP_WRITE);
+    const size_t length = old ? 37 : 42;
+    begin(group, old ? OP_STORE_OLD : OP_STORE);
     state(s);
     u8((unsigned)buffer);
     u8(fill);
     memset(image, (int)fill, sizeof image);
-    const uint8_t c = image_write(s, image, buffer);
+    const uint8_t c = (old ? image_write_old : image_write)(s, image, buffer);
     compare(c, want);
+    for (size_t i = c == 0 ? length : 0; i < sizeof image; i++)
+        if (image[i] != (uint8_t)fill)
+            fail("a byte that is not the image's was written");
+    if (c == 0 && (image[0] != (old ? 0xA1 : 0xA2) || memcmp(image + 1, body + 2, length - 1) != 0))
+        fail("an image that has not the state's bytes");
     code(c);
-    u8(c == 0 ? IMAGE_BYTES : 0);
+    u8(c == 0 ? (unsigned)length : 0);
     state_expected(s);
     raw(image, buffer);
     end();
 }
 
-/* Document 01's soundness, read off an image's bytes one rule after the other; a check on the
- * model, which tests four bytes at a time. */
+static void store_vector(int group, const State *s, size_t buffer, unsigned fill, unsigned want)
+{
+    store_as(group, s, buffer, fill, want, false);
+}
+
+static void store_old_vector(int group, const State *s, size_t buffer, unsigned fill, unsigned want)
+{
+    store_as(group, s, buffer, fill, want, true);
+}
+
+/* Both writers, for a state that fits A1, or with 10 or 11: A1 with this buffer, A2 with one that
+ * has the five bytes more. */
+static void write_vector(int group, const State *s, size_t buffer, unsigned fill, unsigned want)
+{
+    store_old_vector(group, s, buffer, fill, want);
+    store_vector(group, s, buffer == 0 || buffer > 250 ? buffer : buffer + 5, fill, want);
+}
+
+/* The soundness of document 01 and of the requests, read off an A2 image's bytes one rule after
+ * the other; a check on the model, which tests four bytes at a time. */
 static bool plainly_sound(const uint8_t *image)
 {
+    if (image[37] < 1 || image[37] > 9)
+        return false;
+    if (image[38] == 0) {
+        if (image[39] != 0 || image[40] != 0 || image[41] != 0)
+            return false;
+    } else if (image[38] != 1 || plainly_last(image + 39)) {
+        return false;
+    }
     const uint8_t *const h = image + 1, *const p = image + 9;
     if (h[0] > 7 || h[1] > 7 || h[0] > h[1] || h[2] > 4 || h[3] > 2)
         return false;
@@ -291,7 +399,9 @@ static bool plainly_sound(const uint8_t *image)
         }
         if (phase > 5 || direction > 1 || type > 1)
             return false;
-        if (phase == 3 ? tries != 0 : tries < 1 || tries > 3)
+        if (phase == 3 ? tries != 0 : tries < 1 || tries > image[37])
+            return false;
+        if (type == 0 && plainly_last(q + 4))
             return false;
         if (direction == 1 && (type == 1 || phase == 1 || phase == 2))
             return false;
@@ -302,19 +412,60 @@ static bool plainly_sound(const uint8_t *image)
     return true;
 }
 
-static void read_vector(int group, const uint8_t *image, size_t length, unsigned want)
+/* Reading, plainly: the code, and the 41 bytes of the state. */
+static unsigned plainly_read(const uint8_t *image, size_t length, bool old_too, uint8_t got[STATE_BYTES])
+{
+    uint8_t a2[IMAGE_BYTES] = {0xA2};
+    unsigned c = 0;
+    memset(got, 0, STATE_BYTES);
+    got[36] = 3;
+    if (length == 0)
+        return 1;
+    if (image[0] == 0xA2) {
+        if (length != 42)
+            return 1;
+        memcpy(a2, image, 42);
+    } else if (image[0] == 0xA1 && old_too) {
+        if (length != 37)
+            return 1;
+        memcpy(a2 + 1, image + 1, 36);
+        a2[37] = 3;
+    } else {
+        return 2;
+    }
+    if (plainly_sound(a2))
+        memcpy(got, a2 + 1, STATE_BYTES);
+    else
+        c = 11;
+    return c;
+}
+
+static void load_as(int group, const uint8_t *image, size_t length, unsigned want, bool old_too)
 {
     State s;
-    if (want == ANY)
-        want = image[0] != 0xA1 ? 2 : plainly_sound(image) ? 0 : 11;     /* of 37 bytes */
-    begin(group, OP_READ);
+    uint8_t plain[STATE_BYTES], got[IMAGE_BYTES];
+    begin(group, old_too ? OP_LOAD : OP_LOAD_NEW);
     u8((unsigned)length);
     raw(image, length);
-    const uint8_t c = image_read(&s, image, length);
+    const uint8_t c = (old_too ? image_read : image_read_new)(&s, image, length);
     compare(c, want);
+    compare(c, plainly_read(image, length, old_too, plain));
+    image_store(&s, got);
+    if (memcmp(got + 1, plain, STATE_BYTES) != 0)
+        fail("another state by the plain reading");
     code(c);
     state_expected(&s);
     end();
+}
+
+static void read_vector(int group, const uint8_t *image, size_t length, unsigned want)
+{
+    load_as(group, image, length, want, true);
+}
+
+static void read_new_vector(int group, const uint8_t *image, size_t length, unsigned want)
+{
+    load_as(group, image, length, want, false);
 }
 
 static void run_expected(const State *s, const uint8_t *log, size_t length, uint32_t budget,
@@ -373,29 +524,47 @@ static void long_vector(int group, const State *s, const uint8_t *pattern, size_
     end();
 }
 
-static void history_vector(int group, Rng *g, unsigned records)
+static void history_begin(int group, unsigned lowest, unsigned highest, unsigned tries, unsigned records, State *s)
 {
-    uint8_t lowest, highest;
-    State s;
-    gen_x(g, &lowest, &highest);
     begin(group, OP_HISTORY);
     u8(lowest);
     u8(highest);
+    u8(tries);
     u16(records);
-    compare(cold_start(&s, lowest, highest), 0);
+    compare(cold_start(s, (uint8_t)lowest, (uint8_t)highest, (uint8_t)tries), 0);
+}
+
+/* One record of a history; gives its count of actions. */
+static unsigned history_step(State *s, const uint8_t *r, size_t length, bool early, unsigned want)
+{
+    uint8_t actions[ACTION_BUFFER];
+    const State before = *s;
+    const StepResult x = step(s, r, length, actions, sizeof actions);
+    compare(x.code, want);
+    u8((unsigned)length);
+    raw(r, length);
+    if (early)
+        now.code_at = (uint32_t)n;
+    answer(&before, r, x);
+    if (x.count > 0 && now.action_at == 0)
+        now.action_at = (uint32_t)n;
+    raw(actions, (size_t)ACTION_BYTES * x.count);
+    return x.count;
+}
+
+/* A random history of document 01's partners, n = 3. */
+static void history_vector(int group, Rng *g, unsigned records)
+{
+    uint8_t lowest, highest, r[GEN_MOST];
+    State s;
+    Plain plain;
+    gen_x(g, &lowest, &highest);
+    history_begin(group, lowest, highest, 3, records, &s);
+    plain_start(&plain, lowest, highest, 3);
     for (unsigned k = 0; k < records; k++) {
-        uint8_t r[GEN_MOST], actions[ACTION_BUFFER];
-        const size_t length = gen_record(g, &s, false, r);
-        const State before = s;
-        const StepResult x = step(&s, r, length, actions, sizeof actions);
-        u8((unsigned)length);
-        raw(r, length);
-        if (k <= records / 2)
-            now.code_at = (uint32_t)n;
-        answer(&before, r, x);
-        if (x.count > 0 && now.action_at == 0)
-            now.action_at = (uint32_t)n;
-        raw(actions, (size_t)ACTION_BYTES * x.count);
+        const size_t length = gen_plain(g, &plain, false, r);
+        plain_step(&plain, r, length);
+        history_step(&s, r, length, k <= records / 2, ANY);
     }
     state_expected(&s);
     end();
@@ -413,19 +582,21 @@ static void choice(uint8_t p[7], unsigned place, unsigned c)
     p[6] = (uint8_t)(0x20 + place);
 }
 
-static void mix_vector(int group, const uint8_t head[8], const uint8_t p0[7], const uint8_t p1[7],
-                       const uint8_t *r, size_t length)
+static void mix_in(int group, const uint8_t head[8], const uint8_t p0[7], const uint8_t p1[7],
+                   const uint8_t tail[5], const uint8_t *r, size_t length)
 {
     uint8_t image[IMAGE_BYTES] = {IMAGE_KIND}, after[IMAGE_BYTES];
     begin(group, OP_MIX);
     raw(head, 8);
     raw(p0, 7);
     raw(p1, 7);
+    raw(tail, 5);
     u8((unsigned)length);
     raw(r, length);
     memcpy(image + 1, head, 8);
     memcpy(image + 9, p0, 7);
     memcpy(image + 16, p1, 7);
+    memcpy(image + 37, tail, 5);
     for (unsigned j = 0; j <= 10; j++)
         for (unsigned k = 0; k <= 10; k++) {
             State s;
@@ -444,20 +615,35 @@ static void mix_vector(int group, const uint8_t head[8], const uint8_t p0[7], co
                 now.action_at = (uint32_t)n;
             raw(actions, (size_t)ACTION_BYTES * x.count);
             image_store(&s, after);
+            if (memcmp(after + 1, image + 1, 2) != 0 || after[37] != tail[0])
+                fail("a step changed the X numbers or n");
             raw(after + 9, 28);
+            now.state_at = (uint32_t)n - 1;    /* at the end: the number of the Ending RIU in place 3 */
+            now.last_at = (uint32_t)n;
+            raw(after + 38, 4);
         }
-    now.state_at = (uint32_t)n - 1;        /* the number of the Ending RIU in place 3 */
     end();
+}
+
+/* n = 3, no RBC known. */
+static const uint8_t plain_tail[5] = {3, 0, 0, 0, 0};
+
+static void mix_vector(int group, const uint8_t head[8], const uint8_t p0[7], const uint8_t p1[7],
+                       const uint8_t *r, size_t length)
+{
+    mix_in(group, head, p0, p1, plain_tail, r, length);
 }
 
 /* ---- states and records ---- */
 
+/* Cold, with n = 3. */
 static State with_x(unsigned lowest, unsigned highest)
 {
     State s;
     memset(&s, 0, sizeof s);
     s.lowest = (uint8_t)lowest;
     s.highest = (uint8_t)highest;
+    s.n = 3;
     return s;
 }
 
@@ -1079,11 +1265,11 @@ static void refusals(void)
     /* cold start: 13 */
     for (unsigned lowest = 0; lowest < 10; lowest++)
         for (unsigned highest = 0; highest < 10; highest++)
-            cold_vector(2, lowest, highest, highest < 8 && lowest <= highest ? 0 : 13);
+            cold_vector(2, lowest, highest, 3, highest < 8 && lowest <= highest ? 0 : 13);
     static const uint8_t far[8][2] = {{0, 255}, {255, 0}, {255, 255}, {128, 128}, {7, 135}, {129, 1},
                                       {16, 17}, {1, 18}};
     for (unsigned i = 0; i < 8; i++)
-        cold_vector(2, far[i][0], far[i][1], 13);
+        cold_vector(2, far[i][0], far[i][1], 3, 13);
 
     /* run: 12 before 11 */
     const uint8_t mode = EV_MODE, unknown = 0;
@@ -1116,7 +1302,7 @@ static void refusals(void)
 
     /* image read: 1 (empty), 2, 1 (length), 11 */
     uint8_t image[256] = {0};
-    image_store(&s, image);
+    image_store_old(&s, image);
     for (unsigned bad = 0; bad < 3; bad++) {             /* sound, unsound twice */
         static const uint8_t lengths[8] = {0, 1, 2, 36, 37, 38, 74, 255};
         image[4] = bad == 1 ? 3 : 1;                     /* mission */
@@ -1126,7 +1312,7 @@ static void refusals(void)
             for (unsigned k = 0; k < 5; k++) {
                 image[0] = kinds[k];
                 read_vector(2, image, lengths[i],
-                            lengths[i] == 0 ? 1 : k > 0 ? 2 : lengths[i] != 37 ? 1 : bad ? 11 : 0);
+                            lengths[i] == 0 ? 1 : k == 2 ? 1 : k > 0 ? 2 : lengths[i] != 37 ? 1 : bad ? 11 : 0);
             }
         }
     }
@@ -1234,12 +1420,13 @@ static void fields(void)
             const uint32_t who = (e & 1 ? 0x01000000u : 0) | (e & 2 ? 0xFFFFFFu : 0);
             const uint8_t phase[7] = {CONNECTING, LOST, OPEN, ENDING, CONTACTING, CONTACTING, ENDING};
             State t = s;
+            const bool last = who == 0x00FFFFFF;         /* means the last known RBC */
             hold(&t, 3, who, phase[c], OUTGOING, phase[c] == OPEN ? 0 : 2);
-            step_rec(3, &t, column(c, who, c == 4 ? 0x20 : 0x7F), 0);
+            step_rec(3, &t, column(c, who, c == 4 ? 0x20 : 0x7F), last ? 11 : 0);
             if (c == 0)
-                step_rec(3, &s, order_of(who, 0, 1), 0);
+                step_rec(3, &s, order_of(who, 0, 1), last ? 15 : 0);
             if (c == 0 && e % 2 == 0)
-                step_rec(3, &s, message_of(who, 38, 0), 0);
+                step_rec(3, &s, message_of(who, 38, 0), last ? 3 : 0);
         }
 
     /* every length 0 to 8 of every kind, and 16; what is there is in range and would be taken */
@@ -1564,7 +1751,7 @@ static unsigned image_states(State *out)
 
 static void damage(const uint8_t *image, unsigned at, unsigned value)
 {
-    uint8_t b[IMAGE_BYTES];
+    uint8_t b[OLD_IMAGE_BYTES];
     memcpy(b, image, sizeof b);
     b[at] = (uint8_t)value;
     read_vector(6, b, sizeof b, ANY);
@@ -1577,27 +1764,28 @@ static void images(void)
     const unsigned c = image_states(s);
 
     for (unsigned i = 0; i < c; i++) {
+        const unsigned good = i == 1 ? 11 : 0;         /* an RBC in it that means the last known one */
         static const uint8_t lengths[6] = {36, 37, 38, 45, 0, 255};
         static const uint8_t fills[4] = {0x00, 0xFF, 0xA1, 0x5A};
         for (unsigned l = 0; l < 4; l++)
             for (unsigned f = 0; f < 4; f++)
                 if (i == 0 || (f + l + i) % 2 == 0)
-                    write_vector(6, &s[i], lengths[l], fills[f], lengths[l] < 37 ? 10 : 0);
+                    write_vector(6, &s[i], lengths[l], fills[f], lengths[l] < 37 ? 10 : good);
         write_vector(6, &s[i], lengths[4], fills[i % 4], 10);
         if (i == 0)
             write_vector(6, &s[i], lengths[5], fills[i % 4], 0);
 
         memset(b, 0, sizeof b);
-        image_store(&s[i], b);
+        image_store_old(&s[i], b);
         static const uint8_t read_lengths[9] = {0, 1, 2, 9, 36, 37, 38, 45, 255};
         for (unsigned l = 0; l < 9; l++)
-            read_vector(6, b, read_lengths[l], l == 5 ? 0 : 1);
+            read_vector(6, b, read_lengths[l], l == 5 ? good : 1);
 
         /* each byte damaged */
         if (i > 3)
             continue;
         static const uint8_t values[12] = {0, 1, 2, 3, 4, 5, 6, 7, 8, 128, 254, 255};
-        for (unsigned at = 0; at < IMAGE_BYTES; at++) {
+        for (unsigned at = 0; at < OLD_IMAGE_BYTES; at++) {
             const unsigned v = b[at];
             const bool number = at >= 9 && (at - 9) % 7 >= 4;        /* takes any value, if held */
             for (unsigned k = 0; k < 12; k++) {
@@ -1614,10 +1802,10 @@ static void images(void)
     }
 
     /* first byte wrong, of a sound image */
-    image_store(&s[0], b);
+    image_store_old(&s[0], b);
     for (unsigned v = 0; v < 256; v += v < 0x9E || v > 0xA3 ? 17 : 1) {
         b[0] = (uint8_t)v;
-        read_vector(6, b, IMAGE_BYTES, v == 0xA1 ? 0 : 2);
+        read_vector(6, b, OLD_IMAGE_BYTES, v == 0xA1 ? 0 : v == 0xA2 ? 1 : 2);
     }
 
     /* each form in each place alone: written and read */
@@ -1629,8 +1817,8 @@ static void images(void)
                     continue;
                 hold_form(&t, place, type ? A_RIU : A, f);
                 set_head(&t, f + place);
-                image_store(&t, b);
-                read_vector(6, b, IMAGE_BYTES, 0);
+                image_store_old(&t, b);
+                read_vector(6, b, OLD_IMAGE_BYTES, 0);
                 if ((f + type) % 4 == place)
                     write_vector(6, &t, 37, next_fill(), 0);
             }
@@ -1640,7 +1828,7 @@ static void images(void)
             for (unsigned tries = 0; tries <= 4; tries++)
                 for (unsigned type = 0; type <= 1; type++) {
                     State t = with_x(1, 2);
-                    image_store(&t, b);
+                    image_store_old(&t, b);
                     uint8_t *const p = b + 9 + 7 * ((phase + direction + tries + type) % 4);
                     p[0] = (uint8_t)phase;
                     p[1] = (uint8_t)direction;
@@ -1649,7 +1837,7 @@ static void images(void)
                     p[4] = 1, p[5] = 2, p[6] = 3;
                     const bool ok = phase >= 1 && phase <= 5 && (phase == OPEN ? tries == 0 : tries >= 1 && tries <= 3) &&
                                     !(direction && (type || phase <= CONTACTING));
-                    read_vector(6, b, IMAGE_BYTES, ok ? 0 : 11);
+                    read_vector(6, b, OLD_IMAGE_BYTES, ok ? 0 : 11);
                 }
     /* the same partner in two places; same number, another type; RBC 0 twice, and once beside
      * free places; the marks in all sixteen ways; the X numbers */
@@ -1661,8 +1849,8 @@ static void images(void)
                 State t = with_x(1, 2);
                 hold_form(&t, i, turn == 2 ? 0 : A, 2 + 3 * turn + i);
                 hold_form(&t, j, turn == 1 ? A_RIU : turn == 2 ? 0 : A, 4 + 2 * turn + j);
-                image_store(&t, b);
-                read_vector(6, b, IMAGE_BYTES, turn == 1 ? 0 : 11);
+                image_store_old(&t, b);
+                read_vector(6, b, OLD_IMAGE_BYTES, turn == 1 ? 0 : 11);
                 if (turn == 2) {
                     vacate(&t, j);
                     write_vector(6, &t, 37, next_fill(), 0);
@@ -1672,16 +1860,16 @@ static void images(void)
     for (unsigned m = 0; m < 16; m++) {
         State t = with_x(1, 2);
         set_marks(&t, m);
-        image_store(&t, b);
-        read_vector(6, b, IMAGE_BYTES, (m & 9) == 9 ? 11 : 0);
+        image_store_old(&t, b);
+        read_vector(6, b, OLD_IMAGE_BYTES, (m & 9) == 9 ? 11 : 0);
         write_vector(6, &t, 37, next_fill(), (m & 9) == 9 ? 11 : 0);
     }
     for (unsigned lowest = 0; lowest < 9; lowest++)
         for (unsigned highest = 0; highest < 9; highest++) {
             const State t = with_x(lowest, highest);
-            image_store(&t, b);
+            image_store_old(&t, b);
             if (lowest < 2 || highest > 6 || (lowest > highest ? lowest - highest : highest - lowest) < 2)
-                read_vector(6, b, IMAGE_BYTES, highest < 8 && lowest <= highest ? 0 : 11);
+                read_vector(6, b, OLD_IMAGE_BYTES, highest < 8 && lowest <= highest ? 0 : 11);
         }
 }
 
@@ -1900,33 +2088,36 @@ static void runs(void)
 
     /* random logs, from cold and from where the one before ended */
     Rng g = {0x8A5CADE5EED0001u};
-    s = cold;
+    Plain plain;
+    plain.s = cold;
     for (unsigned i = 0; i < 35; i++) {
         if (i % 8 == 0)
-            s = with_x(i % 3, 1 + i % 7);
-        State t = s;
+            plain.s = with_x(i % 3, 1 + i % 7);
+        s = plain.s;
+        unsigned start = 0;                    /* 11 if RBC FFFFFF had a place */
+        for (unsigned p = 0; p < PLACES; p++)
+            if (s.phase[p] != FREE && s.partner[p] == 0x00FFFFFE)
+                s.partner[p] = 0x00FFFFFF, start = 11;
         l.n = l.records = 0;
         const unsigned m = i == 7 || i == 23 ? 500 : 30 + rng_below(&g, 50);
         for (unsigned k = 0; k < m; k++) {
             Rec r;
-            uint8_t a[ACTION_BUFFER];
-            r.n = gen_record(&g, &t, true, r.b);
+            r.n = gen_plain(&g, &plain, true, r.b);
             put(&l, r);
-            step(&t, r.b, r.n, a, sizeof a);
+            plain_step(&plain, r.b, r.n);
         }
         const unsigned turn = i % 5;
         if (turn == 0)
-            run_vector(8, &s, l.b, l.n, m, 0, 0);
+            run_vector(8, &s, l.b, l.n, m, start, 0);
         else if (turn == 1)
-            run_vector(8, &s, l.b, l.n, m - 1 - rng_below(&g, m - 1), 0, 1);
+            run_vector(8, &s, l.b, l.n, m - 1 - rng_below(&g, m - 1), start, start ? 0 : 1);
         else if (turn == 2)
-            run_vector(8, &s, l.b, l.n - 1, 0xFFFFFFFF, 0, ANY);
+            run_vector(8, &s, l.b, l.n - 1, 0xFFFFFFFF, start, ANY);
         else if (turn == 3) {
             l.b[l.n++] = (uint8_t)(rng_below(&g, 2) ? 0 : 12 + rng_below(&g, 244));
-            run_vector(8, &s, l.b, l.n, m + 1, 0, 3);
+            run_vector(8, &s, l.b, l.n, m + 1, start, start ? 0 : 3);
         } else
-            run_vector(8, &s, l.b, l.n, 4096, 0, 0);
-        s = t;
+            run_vector(8, &s, l.b, l.n, 4096, start, 0);
     }
 
     /* long logs */
@@ -1989,6 +2180,1143 @@ static void histories(void)
         history_vector(9, &g, 20 + rng_below(&g, 11));
 }
 
+/* ---- answers written down as a whole ---- */
+
+typedef struct { unsigned number; uint32_t who; } Act;
+
+/* The state after the step, and its actions, by hand. */
+static void whole_step(int group, const State *s, Rec r, Hand want, const State *after,
+                       unsigned acts, const Act *act)
+{
+    State got = *s;
+    uint8_t actions[ACTION_BUFFER];
+    const StepResult x = step(&got, r.b, r.n, actions, sizeof actions);
+    if (x.count != acts || !same(&got, after))
+        fail("another count of actions or another state by hand");
+    for (unsigned i = 0; i < acts; i++) {
+        const uint8_t *const b = actions + 5 * i;
+        if (b[0] != act[i].number || b[1] != act[i].who >> 24 || b[2] != (act[i].who >> 16 & 255) ||
+            b[3] != (act[i].who >> 8 & 255) || b[4] != (act[i].who & 255))
+            fail("another action by hand");
+    }
+    step_vector(group, s, r.b, r.n, want);
+}
+
+static void refused_step(int group, const State *s, Rec r, unsigned want, unsigned place, unsigned phase)
+{
+    whole_step(group, s, r, (Hand){want, place, phase}, s, 0, NULL);
+}
+
+static State with_n(unsigned lowest, unsigned highest, unsigned tries)
+{
+    State s = with_x(lowest, highest);
+    s.n = (uint8_t)tries;
+    return s;
+}
+
+/* An unsound state to everything that takes one; 'turn' chooses the rest. */
+static void refused_everywhere(int group, const State *s, Rec r, unsigned turn)
+{
+    uint8_t log[16];
+    if (sound(s))
+        fail("this state is sound");
+    refused_step(group, s, r, 11, 4, 0);
+    memcpy(log, r.b, r.n);
+    log[r.n] = EV_MODE;
+    switch (turn % 4) {
+    case 0: run_vector(group, s, log, turn % 8 ? r.n + 1 : 0, turn % 3 ? 4096 : 0, 11, 0); break;
+    case 1: store_vector(group, s, turn % 8 == 1 ? 42 : 50, next_fill(), 11); break;
+    case 2: store_old_vector(group, s, turn % 8 == 2 ? 37 : 50, next_fill(), 11); break;
+    default: step_in(group, s, r.b, r.n, 19, next_fill(), untold(10)); break;
+    }
+}
+
+/* ---- group 10: tries ---- */
+
+static const uint8_t repeat_of[ENDING + 1] = {0, 21, 155, 0, 21, 156};
+
+/* Timeouts in each phase with tries 0, 1, n - 1, n, n + 1, for n that are sound and not. */
+static void tries_timeouts(void)
+{
+    static const uint8_t ns[14] = {1, 2, 3, 4, 5, 6, 7, 8, 9, 0, 10, 11, 128, 255};
+    unsigned k = 0;
+    for (unsigned i = 0; i < 14; i++)
+        for (unsigned phase = CONNECTING; phase <= ENDING; phase++)
+            for (unsigned what = 0; what < 5; what++)
+                for (unsigned side = 0; side < 3; side++) {       /* outgoing RBC, RIU, incoming RBC */
+                    const unsigned m = ns[i];
+                    const unsigned t = (uint8_t)(unsigned[]){0, 1, m - 1, m, m + 1}[what];
+                    if ((side == 2 && phase < OPEN) || (phase == OPEN && what > 0))
+                        continue;
+                    const uint32_t who = side == 1 ? A_RIU : A;
+                    const unsigned place = k % 4;
+                    State s = with_n(1, 2, m), after;
+                    if (k / 4 % 2) {                              /* others, at their first and last try */
+                        hold(&s, (place + 1) % 4, A_1, CONNECTING, OUTGOING, m >= 1 && m <= 9 ? m : 1);
+                        hold(&s, (place + 3) % 4, who ^ 0x01000000, ENDING, OUTGOING, 1);
+                    }
+                    if (k / 3 % 2)
+                        s.last = KNOWN | (k % 5 ? A_2 : A);
+                    hold(&s, place, who, phase, side == 2 ? INCOMING : OUTGOING, t);
+                    set_head(&s, k++);
+                    after = s;
+                    if (m < 1 || m > 9 || (phase != OPEN && (t < 1 || t > m))) {
+                        refused_everywhere(10, &s, rec5(EV_TIMEOUT, who), k);
+                        continue;
+                    }
+                    if (phase == OPEN) {
+                        refused_step(10, &s, rec5(EV_TIMEOUT, who), 7, place, OPEN);
+                        continue;
+                    }
+                    if (t < m)
+                        after.tries[place]++;
+                    else
+                        vacate(&after, place);
+                    whole_step(10, &s, rec5(EV_TIMEOUT, who), untold(0), &after, 1,
+                               &(Act){t < m ? repeat_of[phase] : 22, who});
+                }
+}
+
+/* Every number of tries from 1 to n in turn, and the events that begin with the first try. */
+static void tries_steps(void)
+{
+    for (unsigned m = 1; m <= 9; m++) {
+        for (unsigned phase = CONNECTING; phase <= ENDING; phase++)
+            for (unsigned t = 1; t <= m && phase != OPEN; t++) {
+                const unsigned place = (m + t) % 4;
+                State s = with_n(0, 3, m), after;
+                hold(&s, place, A_2, phase, OUTGOING, t);
+                after = s;
+                if (t == m)
+                    vacate(&after, place);
+                else
+                    after.tries[place] = (uint8_t)(t + 1);
+                whole_step(10, &s, rec5(EV_TIMEOUT, A_2), untold(0), &after, 1,
+                           &(Act){t == m ? 22 : repeat_of[phase], A_2});
+            }
+
+        State s = with_n(1, 2, m), after;
+        hold(&s, 2, A, CONNECTING, OUTGOING, m);
+        after = s;
+        hold(&after, 2, A, CONTACTING, OUTGOING, 1);
+        whole_step(10, &s, rec5(EV_UP, A), untold(0), &after, 1, &(Act){155, A});
+
+        hold(&s, 2, A, CONTACTING, OUTGOING, m);
+        hold(&after, 2, A, ENDING, OUTGOING, 1);
+        whole_step(10, &s, message_of(A, 32, 0x30), untold(0), &after, 2, (Act[]){{154, A}, {156, A}});
+        hold(&after, 2, A, OPEN, OUTGOING, 0);
+        after.last = KNOWN | A;
+        whole_step(10, &s, message_of(A, 32, 0x2F), untold(0), &after, 1, &(Act){159, A});
+        after.last = 0;
+
+        hold(&s, 2, A, OPEN, INCOMING, 0);
+        hold(&after, 2, A, LOST, INCOMING, 1);
+        whole_step(10, &s, rec5(EV_LOST, A), untold(0), &after, 1, &(Act){21, A});
+        hold(&after, 2, A, ENDING, INCOMING, 1);
+        whole_step(10, &s, rec5(EV_DROP, A), untold(0), &after, 1, &(Act){156, A});
+        whole_step(10, &s, rec2(EV_END_ALL, m % 2), untold(0), &after, 1, &(Act){156, A});
+
+        hold(&s, 2, A, LOST, INCOMING, m);
+        hold(&after, 2, A, OPEN, INCOMING, 0);
+        whole_step(10, &s, rec5(EV_UP, A), untold(0), &after, 0, NULL);
+
+        s = after = with_n(1, 2, m);
+        hold(&after, 0, A, CONNECTING, OUTGOING, 1);
+        whole_step(10, &s, order_of(A, m % 2, 1), untold(0), &after, 1, &(Act){21, A});
+        hold(&after, 0, A, OPEN, INCOMING, 0);
+        after.last = KNOWN | A;
+        whole_step(10, &s, message_of(A, 38, 0), untold(0), &after, 1, &(Act){159, A});
+    }
+}
+
+/* Four places with tries around n at the same time: sound or not for each of them. */
+static void tries_together(void)
+{
+    for (unsigned m = 1; m <= 9; m++)
+        for (unsigned place = 0; place < PLACES; place++)
+            for (unsigned over = 0; over < 3; over++) {
+                State s = with_n(1, 2, m);
+                for (unsigned i = 0; i < PLACES; i++)
+                    hold(&s, i, A + i, (uint8_t[]){CONNECTING, LOST, ENDING, CONTACTING}[(i + m) % 4], OUTGOING,
+                         i == place ? (over == 0 ? m : over == 1 ? m + 1 : m % 2 ? 0 : 255) : m);
+                if (over > 0) {
+                    refused_everywhere(10, &s, rec5(EV_TIMEOUT, A + (place + over) % 4), m + place);
+                    continue;
+                }
+                State after = s;
+                vacate(&after, place);
+                whole_step(10, &s, rec5(EV_TIMEOUT, A + place), untold(0), &after, 1, &(Act){22, A + place});
+                if (place == 0)
+                    store_vector(10, &s, 42, next_fill(), 0);
+            }
+}
+
+static void cold_starts(void)
+{
+    static const uint8_t xs[8][2] = {{1, 2}, {0, 7}, {7, 7}, {0, 0}, {2, 1}, {0, 8}, {8, 8}, {255, 0}};
+    for (unsigned tries = 0; tries < 256; tries++)
+        for (unsigned i = 0; i < 8; i++) {
+            if (i > 0 && tries > 12 && tries != 127 && tries != 128 && tries != 255 && tries % 8 != i)
+                continue;
+            cold_vector(10, xs[i][0], xs[i][1], tries, i < 4 && tries >= 1 && tries <= 9 ? 0 : 13);
+        }
+    for (unsigned lowest = 0; lowest < 10; lowest++)
+        for (unsigned highest = 0; highest < 10; highest++) {
+            const unsigned want = highest < 8 && lowest <= highest ? 0 : 13;
+            cold_default_vector(10, lowest, highest, want);
+            if (want == 0 || (lowest + highest) % 3 == 0)
+                cold_vector(10, lowest, highest, (lowest * 3 + highest) % 9 + 1, want);
+        }
+    static const uint8_t far[10][2] = {{0, 255}, {255, 0}, {255, 255}, {128, 128}, {7, 135}, {129, 1},
+                                       {16, 17}, {1, 18}, {0, 128}, {5, 16}};
+    for (unsigned i = 0; i < 10; i++)
+        cold_default_vector(10, far[i][0], far[i][1], 13);
+}
+
+/* A history by hand: its records, and the count of all its actions. */
+typedef struct { Rec r[200]; unsigned n; } Row;
+
+static void row(Row *w, Rec r)
+{
+    if (w->n == sizeof w->r / sizeof w->r[0])
+        fail("history too long");
+    w->r[w->n++] = r;
+}
+
+static void row_many(Row *w, Rec r, unsigned times)
+{
+    while (times-- > 0)
+        row(w, r);
+}
+
+static void row_vector(int group, unsigned tries, const Row *w, unsigned actions)
+{
+    State s;
+    unsigned sum = 0;
+    static Log l;
+    l.n = l.records = 0;
+    history_begin(group, 1, 2, tries, w->n, &s);
+    for (unsigned i = 0; i < w->n; i++) {
+        sum += history_step(&s, w->r[i].b, w->r[i].n, i <= w->n / 2, ANY);
+        put(&l, w->r[i]);
+    }
+    if (sum != actions)
+        fail("another number of actions by hand");
+    state_expected(&s);
+    end();
+    s = with_n(1, 2, tries);
+    run_vector(group, &s, l.b, l.n, tries % 2 ? l.records : 0xFFFFFFFF, 0, 0);
+}
+
+/* The histories that reach the bounds of request Q-3: 3n + 2 for an order, n + 2 for a call, n for
+ * a loss, n timeouts. */
+static void tries_bounds(void)
+{
+    for (unsigned m = 1; m <= 9; m++) {
+        static Row w;
+        for (unsigned how = 0; how < 4; how++) {       /* the last of an Ending: 39, timeout, lost */
+            const uint32_t who = how == 3 ? A_RIU : A;
+            const Rec timeout = rec5(EV_TIMEOUT, who);
+            const Rec last[4] = {message_of(who, 39, 0), timeout, rec5(EV_LOST, who), message_of(who, 39, 0)};
+            w.n = 0;                                   /* order, then 159 or 154 */
+            row(&w, order_of(who, how % 2, 1));
+            row_many(&w, timeout, m - 1);
+            row(&w, rec5(EV_UP, who));
+            row_many(&w, timeout, m - 1);
+            row(&w, message_of(who, 32, how < 2 ? 0x11 : 0x30));
+            if (how < 2)
+                row(&w, rec5(EV_DROP, who));
+            row_many(&w, timeout, m - 1);
+            row(&w, last[how]);
+            row_vector(10, m, &w, 3 * m + 2);
+            if (how == 3)
+                continue;
+            w.n = 0;                                   /* call */
+            row(&w, message_of(who, 38, 0));
+            row(&w, rec5(EV_DROP, who));
+            row_many(&w, timeout, m - 1);
+            row(&w, last[how]);
+            row_vector(10, m, &w, m + 2);
+        }
+        const Rec timeout = rec5(EV_TIMEOUT, A_1);
+        w.n = 0;                                       /* losses, three of them come back */
+        row(&w, message_of(A_1, 38, 0));
+        for (unsigned i = 0; i < 3; i++) {
+            row(&w, rec5(EV_LOST, A_1));
+            row_many(&w, timeout, m - 1);
+            row(&w, rec5(EV_UP, A_1));
+        }
+        row(&w, rec5(EV_LOST, A_1));
+        row_many(&w, timeout, m);
+        row(&w, timeout);                              /* 6 */
+        row_vector(10, m, &w, 1 + 3 * m + m + 1);
+        w.n = 0;                                       /* n timeouts, and no more */
+        row(&w, order_of(A_1, 1, 1));
+        row_many(&w, timeout, m + 1);
+        row(&w, order_of(A_1, 1, 1));
+        row(&w, rec5(EV_UP, A_1));
+        row_many(&w, timeout, m + 1);
+        row_vector(10, m, &w, m + 1 + 2 + m);
+        w.n = 0;                                       /* an order with two losses */
+        row(&w, order_of(A_1, 0, 1));
+        row_many(&w, timeout, m - 1);
+        row(&w, rec5(EV_UP, A_1));
+        row_many(&w, timeout, m - 1);
+        row(&w, message_of(A_1, 32, 0x2F));
+        for (unsigned i = 0; i < 2; i++) {
+            row(&w, rec5(EV_LOST, A_1));
+            row_many(&w, timeout, m - 1);
+            row(&w, rec5(EV_UP, A_1));
+        }
+        row(&w, rec2(EV_MISSION, 0));
+        row_many(&w, timeout, m - 1);
+        row(&w, message_of(A_1, 39, 0));
+        row_vector(10, m, &w, 3 * m + 2 + 2 * m);
+        w.n = 0;                                       /* four at a time */
+        for (unsigned i = 0; i < PLACES; i++)
+            row(&w, order_of(i % 2 ? A_RIU + i : A + i, 1, 1));
+        for (unsigned k = 0; k < m; k++)
+            for (unsigned i = 0; i < PLACES; i++)
+                row(&w, rec5(EV_TIMEOUT, i % 2 ? A_RIU + i : A + i));
+        row_vector(10, m, &w, PLACES * (m + 1));
+    }
+}
+
+static void tries(void)
+{
+    tries_timeouts();
+    tries_steps();
+    tries_together();
+    cold_starts();
+    tries_bounds();
+
+    /* long logs with other numbers of tries */
+    for (unsigned i = 0; i < 4; i++) {
+        const unsigned m = (uint8_t[]){1, 2, 5, 9}[i];
+        static Log l;
+        const State s = with_n(1, 2, m);
+        l.n = l.records = 0;
+        put(&l, order_of(A, 1, 1));
+        put(&l, rec5(EV_UP, A));
+        for (unsigned k = 0; k < 3; k++)
+            put(&l, rec5(EV_TIMEOUT, A));
+        long_vector(10, &s, l.b, l.n, 300000 + i, 0xFFFFFFFF, 0, ANY);
+    }
+}
+
+/* ---- group 11: last ---- */
+
+/* Numbers whose low 14 bits are 16,383, and numbers that miss it by one bit. */
+static uint32_t last_like[40], miss_like[40];
+static unsigned last_likes, miss_likes;
+
+static void make_likes(void)
+{
+    last_likes = miss_likes = 0;
+    last_like[last_likes++] = 0x003FFF;
+    for (unsigned b = 0; b < 10; b++)
+        last_like[last_likes++] = 0x003FFF | 0x4000u << b;
+    static const uint8_t middle[4] = {63, 127, 191, 255};
+    for (unsigned i = 0; i < 4; i++) {
+        last_like[last_likes++] = 0x5A0000 | (uint32_t)middle[i] << 8 | 255;
+        if (i > 0)
+            last_like[last_likes++] = 0xFF0000 | (uint32_t)middle[i] << 8 | 255;
+    }
+    for (unsigned b = 0; b < 14; b++) {
+        miss_like[miss_likes++] = 0x003FFF ^ 1u << b;
+        miss_like[miss_likes++] = 0xFFFFFF ^ 1u << b;
+    }
+    static const uint8_t near[4] = {62, 126, 190, 254};
+    for (unsigned i = 0; i < 4; i++)
+        miss_like[miss_likes++] = 0x5A0000 | (uint32_t)near[i] << 8 | 255;
+    for (unsigned i = 0; i < 4; i++)
+        miss_like[miss_likes++] = 0x5A0000 | (uint32_t)middle[i] << 8 | 254;
+}
+
+/* An order to the last known RBC answers as the order to that RBC itself does. */
+static void meant_step(const State *s, uint32_t like, unsigned accepting, unsigned cause, unsigned want,
+                       unsigned place, unsigned phase)
+{
+    State a = *s, b = *s;
+    uint8_t x[ACTION_BUFFER] = {0}, y[ACTION_BUFFER] = {0};
+    const Rec r = order_of(like, accepting, cause), named = order_of(s->last & 0xFFFFFF, accepting, cause);
+    const StepResult p = step(&a, r.b, r.n, x, sizeof x), q = step(&b, named.b, named.n, y, sizeof y);
+    if (s->last == 0 || memcmp(&p, &q, sizeof p) != 0 || !same(&a, &b) || memcmp(x, y, sizeof x) != 0)
+        fail("not as the order to the RBC itself");
+    if (p.code == 0 && a.last != s->last)
+        fail("an order changed the last known RBC");
+    step_vector(11, s, r.b, r.n, (Hand){want, place, phase});
+}
+
+/* Level 2, mission 1, marks of mode change, manual change and hole end: every cause is in force. */
+static void all_in_force(State *s)
+{
+    s->level = 2;
+    s->mission = 1;
+    set_marks(s, 7);
+}
+
+/* The states of knowledge: none known; known, and free, held in an Ending place, with all places
+ * taken by others, taken and held. */
+enum { KNOWLEDGE = 6 };
+
+static State knowledge(unsigned k, unsigned turn)
+{
+    static const uint32_t who[4] = {A, 0x00000000, 0x00FFFFFE, 0x00003EFF};
+    State s = with_n(1, 2, turn % 9 + 1);
+    if (k == 1 || k == 4 || k == 5)
+        for (unsigned i = 0; i < PLACES; i++)
+            hold(&s, i, 0x00000900 + i + (i == 2 ? 0x01000000u : 0), (turn + i) % 5 + 1, OUTGOING,
+                 (turn + i) % 5 + 1 == OPEN ? 0 : 1);
+    if (k >= 2)
+        s.last = KNOWN | who[turn % 4];
+    if (k == 3 || k == 5)
+        hold(&s, turn % 4, who[turn % 4], turn / 4 % 5 + 1, OUTGOING, turn / 4 % 5 + 1 == OPEN ? 0 : 1);
+    return s;
+}
+
+static void last_orders(void)
+{
+    unsigned turn = 0;
+    /* every such number in every state of knowledge */
+    for (unsigned i = 0; i < last_likes; i++)
+        for (unsigned k = 0; k < KNOWLEDGE; k++, turn++) {
+            State s = knowledge(k, turn);
+            const unsigned place = turn % 4, phase = turn / 4 % 5 + 1;
+            if (i % 2)
+                all_in_force(&s);
+            const unsigned cause = i % 2 ? turn % 5 : 1;
+            if (k < 2)
+                refused_step(11, &s, order_of(last_like[i], turn / 2 % 2, cause), 15, 4, 0);
+            else if (k == 3 || k == 5)
+                meant_step(&s, last_like[i], turn / 2 % 2, cause, 5, place, phase);
+            else
+                meant_step(&s, last_like[i], turn / 2 % 2, cause, k == 4 ? 8 : 0, 4, 0);
+        }
+    /* every cause in force and not, accepting or not: 4, 15, 5, 8 in this order, the marks stay */
+    for (unsigned cause = 0; cause < 5; cause++)
+        for (unsigned why = 0; why < 3; why++)
+            for (unsigned accepting = 0; accepting < 2; accepting++)
+                for (unsigned k = 0; k < KNOWLEDGE; k++, turn++) {
+                    State s = knowledge(k, turn);
+                    const uint32_t like = last_like[turn % last_likes];
+                    all_in_force(&s);
+                    if (why > 0) {                     /* not in force, but for cause 1 */
+                        static const struct { uint8_t level, mission, marks; } no[5][2] = {
+                            {{1, 1, 7}, {2, 2, 7}}, {{0, 0, 0}, {4, 2, 8}}, {{3, 2, 3}, {2, 0, 7}},
+                            {{2, 1, 5}, {4, 1, 7}}, {{2, 1, 6}, {3, 1, 14}},
+                        };
+                        s.level = no[cause][why - 1].level;
+                        s.mission = no[cause][why - 1].mission;
+                        set_marks(&s, no[cause][why - 1].marks);
+                    }
+                    if (why > 0 && cause != 1)
+                        refused_step(11, &s, order_of(like, accepting, cause), 4, 4, 0);
+                    else if (k < 2)
+                        refused_step(11, &s, order_of(like, accepting, cause), 15, 4, 0);
+                    else if (k == 3 || k == 5)
+                        meant_step(&s, like, accepting, cause, 5, turn % 4, turn / 4 % 5 + 1);
+                    else
+                        meant_step(&s, like, accepting, cause, k == 4 ? 8 : 0, 4, 0);
+                    /* 3 before 4 and 15 */
+                    if (why < 2 && (turn % 3 == 0 || k < 2)) {
+                        refused_step(11, &s, order_of(like, accepting + 2, cause), 3, 4, 0);
+                        refused_step(11, &s, order_of(like, accepting, cause + 5), 3, 4, 0);
+                        refused_step(11, &s, order_of(like | 0x02000000, accepting, cause), 3, 4, 0);
+                    }
+                }
+    /* held in each place and form; around it places free or taken, its number as an RIU */
+    for (unsigned place = 0; place < PLACES; place++)
+        for (unsigned f = 0; f < 20; f++) {
+            for (unsigned around = 0; around < AROUNDS; around++, turn++) {
+                if ((f + around + place) % 2 && f > 7)
+                    continue;
+                State s = standing(A, place, f, around);
+                all_in_force(&s);
+                s.last = KNOWN | A;
+                meant_step(&s, last_like[turn % last_likes], turn % 2, turn % 5, 5, place, form[f].phase);
+            }
+            /* an RIU has its number, another RBC stands by: not 5 */
+            State s = with_x(1, 2);
+            hold_form(&s, place, A_RIU, f);
+            hold_form(&s, (place + 2) % 4, A_3, f + 7);
+            s.last = KNOWN | A;
+            meant_step(&s, last_like[(f + place) % last_likes], f % 2, 1, 0, 4, 0);
+        }
+    /* free: by hand, with the closings; not accepting closes RBCs in Open and Lost */
+    for (unsigned i = 0; i < last_likes; i++) {
+        State s = with_n(1, 2, i % 9 + 1), after;
+        const uint32_t meant = i % 3 == 0 ? 0 : i % 3 == 1 ? 0x00FFFFFE : NEW;
+        hold(&s, 0, A, OPEN, INCOMING, 0);
+        hold(&s, 1, meant | 0x01000000, OPEN, OUTGOING, 0);
+        hold(&s, 2, A_1, LOST, OUTGOING, 1);
+        s.last = KNOWN | meant;
+        s.hole_end = s.mode = 1;
+        after = s;
+        after.hole_end = 0;
+        hold(&after, 3, meant, CONNECTING, OUTGOING, 1);
+        whole_step(11, &s, order_of(last_like[i], 1, 4), untold(0), &after, 1, &(Act){21, meant});
+        hold(&after, 0, A, ENDING, INCOMING, 1);
+        vacate(&after, 2);
+        whole_step(11, &s, order_of(last_like[i], 0, 4), untold(0), &after, 3,
+                   (Act[]){{156, A}, {22, A_1}, {21, meant}});
+    }
+    for (unsigned held = 0; held < 16; held++)
+        for (unsigned k = 0; k < 4; k++) {
+            State s = with_n(0, 7, 1 + held % 9);
+            const uint32_t like[4] = {A_RIU, A_1, A_2, A_3};
+            for (unsigned i = 0; i < PLACES; i++)
+                if (held >> i & 1)
+                    hold(&s, i, like[i], (held + i + k) % 5 + 1, OUTGOING, (held + i + k) % 5 + 1 == OPEN ? 0 : 1);
+            set_head(&s, held + 5 * k);
+            s.last = KNOWN | A;
+            meant_step(&s, last_like[(held + k) % last_likes], k % 2, 1, held == 15 ? 8 : 0, 4, 0);
+        }
+    /* near misses are RBCs like any other; so is an RIU with any such number */
+    for (unsigned i = 0; i < miss_likes + last_likes; i++) {
+        const uint32_t who = i < miss_likes ? miss_like[i] : 0x01000000 | last_like[i - miss_likes];
+        State s = with_n(1, 2, 3), after;
+        if (i % 2)
+            s.last = KNOWN | A;
+        if (i % 3)
+            hold(&s, 0, A, OPEN, INCOMING, 0);
+        after = s;
+        hold(&after, i % 3 ? 1 : 0, who, CONNECTING, OUTGOING, 1);
+        whole_step(11, &s, order_of(who, 1, 1), untold(0), &after, 1, &(Act){21, who});
+        refused_step(11, &after, order_of(who, 0, 1), 5, i % 3 ? 1 : 0, CONNECTING);
+    }
+}
+
+/* The other events that name such an RBC: 3, whatever else there is; an RIU is taken as any. */
+static void last_events(void)
+{
+    unsigned turn = 0;
+    for (unsigned i = 0; i < last_likes; i++)
+        for (unsigned c = 0; c < 8; c++, turn++) {
+            const State s = knowledge(turn % KNOWLEDGE, turn);
+            const uint32_t like = last_like[i];
+            refused_step(11, &s, c == 7 ? message_of(like, 38, 0) : column(c, like, c == 4 ? 0x11 : 0x30), 3, 4, 0);
+            if (i < 2) {
+                for (unsigned k = 0; k < KNOWLEDGE; k++) {
+                    const State t = knowledge(k, turn + k);
+                    refused_step(11, &t, c == 7 ? message_of(like, 38, 0) : column(c, like, 0x20), 3, 4, 0);
+                }
+                refused_step(11, &s, message_of(like, 32 + c, 128), 3, 4, 0);
+            }
+        }
+    for (unsigned i = 0; i < last_likes; i++)
+        for (unsigned phase = CONNECTING; phase <= ENDING; phase++)
+            for (unsigned c = 0; c < 7; c++) {
+                const uint32_t who = 0x01000000 | last_like[i];
+                const unsigned place = (i + phase) % 4;
+                if (i > 3 && (i + phase + c) % 5)
+                    continue;
+                State s = with_x(1, 2);
+                hold(&s, place, who, phase, OUTGOING, phase == OPEN ? 0 : 1 + i % 3);
+                if (i % 2)
+                    s.last = KNOWN | A;
+                told_rec(11, &s, column(c, who, c == 4 ? 0x11 : 0x30), cell_code[phase][c], place, phase);
+            }
+    for (unsigned i = 0; i < last_likes; i++) {
+        State s = with_x(1, 2);
+        const uint32_t who = 0x01000000 | last_like[i];
+        if (i % 2)
+            s.last = KNOWN | A;
+        refused_step(11, &s, message_of(who, 38, 0), 9, 4, 0);
+        refused_step(11, &s, column(i % 7, who, 0x11), 6, 4, 0);
+        hold(&s, i % 4, who, i % 5 + 1, OUTGOING, i % 5 + 1 == OPEN ? 0 : 3);
+        refused_step(11, &s, message_of(who, 38, 0), 9, 4, 0);
+        refused_step(11, &s, order_of(who, i % 2, 1), 5, i % 4, i % 5 + 1);
+    }
+    /* near misses: every event is taken or refused as of any RBC */
+    for (unsigned i = 0; i < miss_likes; i++) {
+        const uint32_t who = miss_like[i];
+        State s = with_x(1, 2), after;
+        after = s;
+        hold(&after, 0, who, OPEN, INCOMING, 0);
+        after.last = KNOWN | who;
+        whole_step(11, &s, message_of(who, 38, 0), untold(0), &after, 1, &(Act){159, who});
+        const unsigned phase = i % 5 + 1, c = i % 7;
+        hold(&s, i % 4, who, phase, OUTGOING, phase == OPEN ? 0 : 2);
+        told_rec(11, &s, column(c, who, c == 4 ? 0x11 : 0x30), cell_code[phase][c], i % 4, phase);
+        refused_step(11, &s, column(c, who ^ 0x00008000, 0x11),
+                     (who & 0x3FFF) == 0x3FFF ? 3 : 6, 4, 0);
+    }
+}
+
+/* How the last known RBC comes to be known, and what leaves it as it was. */
+static void last_known(void)
+{
+    static const uint32_t known[5] = {0, KNOWN | A, KNOWN | A_1, KNOWN, KNOWN | 0x00FFFFFE};
+    for (unsigned i = 0; i < 5; i++)
+        for (unsigned m = 1; m <= 9; m += 4) {
+            State s = with_n(1, 2, m), after;
+            all_in_force(&s);
+            s.last = known[i];
+            hold(&s, 1, A_RIU, CONTACTING, OUTGOING, m);
+            hold(&s, 2, A, CONTACTING, OUTGOING, 1);
+
+            /* 38: known; 32 in range: an RBC is known, an RIU is not; 154: not */
+            after = s;
+            hold(&after, 0, A_2, OPEN, INCOMING, 0);
+            after.last = KNOWN | A_2;
+            whole_step(11, &s, message_of(A_2, 38, 0), untold(0), &after, 1, &(Act){159, A_2});
+            after = s;
+            hold(&after, 0, 0, OPEN, INCOMING, 0);
+            after.last = KNOWN;
+            whole_step(11, &s, message_of(0, 38, 0), untold(0), &after, 1, &(Act){159, 0});
+            after = s;
+            hold(&after, 2, A, OPEN, OUTGOING, 0);
+            after.last = KNOWN | A;
+            whole_step(11, &s, message_of(A, 32, 0x2F), untold(0), &after, 1, &(Act){159, A});
+            after = s;
+            hold(&after, 1, A_RIU, OPEN, OUTGOING, 0);
+            whole_step(11, &s, message_of(A_RIU, 32, 0x10), untold(0), &after, 1, &(Act){159, A_RIU});
+            after = s;
+            hold(&after, 2, A, ENDING, OUTGOING, 1);
+            whole_step(11, &s, message_of(A, 32, 0x30), untold(0), &after, 2, (Act[]){{154, A}, {156, A}});
+            after = s;
+            hold(&after, 1, A_RIU, ENDING, OUTGOING, 1);
+            whole_step(11, &s, message_of(A_RIU, 32, 0x0F), untold(0), &after, 2,
+                       (Act[]){{154, A_RIU}, {156, A_RIU}});
+
+            /* refused calls and messages */
+            refused_step(11, &s, message_of(A, 38, 0), 5, 2, CONTACTING);
+            refused_step(11, &s, message_of(A_2, 38, 1), 3, 4, 0);
+            refused_step(11, &s, message_of(NEW_RIU, 38, 0), 9, 4, 0);
+            refused_step(11, &s, message_of(A, 39, 0), 7, 2, CONTACTING);
+            refused_step(11, &s, message_of(A_2, 32, 0x11), 6, 4, 0);
+            refused_step(11, &s, message_of(A, 32, 0x80), 3, 4, 0);
+            State full = s;
+            hold(&full, 0, A_3, LOST, INCOMING, m);
+            hold(&full, 3, NEW, OPEN, INCOMING, 0);
+            refused_step(11, &full, message_of(A_2, 38, 0), 8, 4, 0);
+            refused_step(11, &full, message_of(NEW, 32, 0x11), 7, 3, OPEN);
+
+            /* orders, taken and refused; a closed RBC, an RBC back from Lost: no 159 */
+            after = s;
+            hold(&after, 0, A_2, CONNECTING, OUTGOING, 1);
+            whole_step(11, &s, order_of(A_2, 0, 1), untold(0), &after, 1, &(Act){21, A_2});
+            refused_step(11, &s, order_of(A, 0, 1), 5, 2, CONTACTING);
+            refused_step(11, &full, order_of(A_2, 0, 2), 8, 4, 0);
+            after = full;
+            hold(&after, 0, A_3, OPEN, INCOMING, 0);
+            whole_step(11, &full, rec5(EV_UP, A_3), untold(0), &after, 0, NULL);
+            after = full;
+            hold(&after, 3, NEW, LOST, INCOMING, 1);
+            whole_step(11, &full, rec5(EV_LOST, NEW), untold(0), &after, 1, &(Act){21, NEW});
+
+            /* releases, timeouts, end of mission, all ended, level, mode, hole */
+            after = s;
+            vacate(&after, 2);
+            whole_step(11, &s, rec5(EV_DROP, A), untold(0), &after, 1, &(Act){22, A});
+            whole_step(11, &s, rec5(EV_LOST, A), untold(0), &after, 1, &(Act){22, A});
+            if (m > 1)
+                hold(&after, 2, A, CONTACTING, OUTGOING, 2);
+            whole_step(11, &s, rec5(EV_TIMEOUT, A), untold(0), &after, 1, &(Act){m > 1 ? 155 : 22, A});
+            after = full;
+            vacate(&after, 0);
+            vacate(&after, 1);
+            vacate(&after, 2);
+            hold(&after, 3, NEW, ENDING, INCOMING, 1);
+            const Act ended[4] = {{22, A_3}, {22, A_RIU}, {22, A}, {156, NEW}};
+            whole_step(11, &full, rec2(EV_END_ALL, m % 4 == 1), untold(0), &after, 4, ended);
+            after.mission = 0;
+            whole_step(11, &full, rec2(EV_MISSION, 0), untold(0), &after, 4, ended);
+            after = s;
+            hold(&s, 2, A, ENDING, OUTGOING, 1);
+            vacate(&after, 2);
+            whole_step(11, &s, message_of(A, 39, 0), untold(0), &after, 1, &(Act){22, A});
+            after = s;
+            after.mission = 2;
+            whole_step(11, &s, rec2(EV_MISSION, 2), untold(0), &after, 0, NULL);
+            after = s;
+            after.level = 0;
+            whole_step(11, &s, rec3(EV_LEVEL, 0, 1), untold(0), &after, 0, NULL);
+            whole_step(11, &s, rec1(EV_MODE), untold(0), &s, 0, NULL);
+            after = s;
+            after.inside = 1;
+            after.hole_end = 0;
+            whole_step(11, &s, rec2(EV_HOLE, 1), untold(0), &after, 0, NULL);
+        }
+}
+
+/* A state that holds such an RBC in a place, or as the last known one: 11; an RIU may. */
+static void last_unsound(void)
+{
+    unsigned turn = 0;
+    for (unsigned i = 0; i < last_likes; i++)
+        for (unsigned place = 0; place < PLACES; place++)
+            for (unsigned phase = CONNECTING; phase <= ENDING; phase++, turn++) {
+                if (i > 0 && turn % 6)
+                    continue;
+                const unsigned t = phase == OPEN ? 0 : 1;
+                State s = with_n(1, 2, turn % 9 + 1);
+                if (turn % 2)
+                    hold(&s, (place + 1) % 4, A, OPEN, INCOMING, 0);
+                if (turn % 5 == 0)
+                    s.last = KNOWN | A;
+                hold(&s, place, last_like[i], phase, phase >= OPEN ? turn % 2 : 0, t);
+                refused_everywhere(11, &s, turn % 3 ? rec5(EV_DROP, last_like[i]) : rec1(EV_MODE), turn);
+                hold(&s, place, 0x01000000 | last_like[i], phase, OUTGOING, t);
+                step_vector(11, &s, rec1(EV_MODE).b, 1, untold(0));
+                if (turn % 4 == 0)
+                    store_vector(11, &s, 42, next_fill(), 0);
+            }
+    for (unsigned i = 0; i < last_likes; i++)
+        for (unsigned k = 0; k < 4; k++, turn++) {
+            State s = knowledge((uint8_t[]){0, 1, 3, 5}[k], turn);
+            s.last = KNOWN | last_like[i];
+            const Rec r[4] = {order_of(last_like[i], k % 2, 1), rec1(EV_MODE), message_of(A_2, 38, 0), rec2(EV_END_ALL, 0)};
+            refused_everywhere(11, &s, r[(turn + i) % 4], turn);
+        }
+    for (unsigned i = 0; i < miss_likes; i++) {
+        State s = with_n(1, 2, i % 9 + 1), after;
+        s.last = KNOWN | miss_like[i];
+        after = s;
+        after.mode = 1;
+        whole_step(11, &s, rec1(EV_MODE), untold(0), &after, 0, NULL);
+        after = s;
+        hold(&after, 0, miss_like[i], CONNECTING, OUTGOING, 1);
+        whole_step(11, &s, order_of(last_like[i % last_likes], i % 2, 1), untold(0), &after, 1, &(Act){21, miss_like[i]});
+        hold(&s, 0, miss_like[i], OPEN, INCOMING, 0);
+        hold(&s, 1, last_like[i % last_likes] | 0x01000000, OPEN, OUTGOING, 0);
+        if (i % 3 == 0)
+            store_vector(11, &s, 42, next_fill(), 0);
+        meant_step(&s, last_like[i % last_likes], i % 2, 1, 5, 0, OPEN);
+    }
+}
+
+static void last_mixes(void)
+{
+    static const uint8_t head[8] = {1, 2, 3, 1, 0, 1, 1, 1};
+    static const struct { uint8_t a, b, accepting, cause, tail[5]; } mix[12] = {
+        {0, 3, 0, 1, {3, 1, 1, 2, 3}}, {3, 4, 0, 4, {5, 1, 0, 0, 0}}, {4, 0, 1, 2, {1, 1, 255, 255, 254}},
+        {0, 0, 0, 1, {3, 0, 0, 0, 0}}, {3, 8, 0, 3, {9, 1, 0, 0, 0x22}}, {0, 4, 0, 0, {2, 1, 0, 0, 0x23}},
+        {3, 0, 0, 1, {4, 1, 0, 0, 0x20}}, {0, 5, 0, 1, {3, 1, 0, 0, 0x21}}, {8, 3, 0, 1, {7, 1, 0, 0, 0x20}},
+        {1, 2, 0, 1, {3, 0, 0, 0, 0}}, {3, 3, 0, 1, {6, 1, 0, 0x3F, 0xFE}}, {9, 0, 1, 1, {8, 1, 0, 0, 0x23}},
+    };
+    uint8_t p0[7], p1[7];
+    for (unsigned i = 0; i < 12; i++) {
+        const Rec r = order_of(last_like[i], mix[i].accepting, mix[i].cause);
+        choice(p0, 0, mix[i].a);
+        choice(p1, 1, mix[i].b);
+        mix_in(11, head, p0, p1, mix[i].tail, r.b, r.n);
+    }
+    /* a call, which makes another one known; an end of all, which does not */
+    for (unsigned i = 0; i < 3; i++) {
+        const Rec r = i == 0 ? message_of(A, 38, 0) : i == 1 ? rec2(EV_MISSION, 0) : message_of(0x20, 32, 0x1F);
+        choice(p0, 0, i == 2 ? 2 : 0);
+        choice(p1, 1, 4);
+        mix_in(11, head, p0, p1, (const uint8_t[]){4, 1, 9, 8, 7}, r.b, r.n);
+    }
+}
+
+/* A session with 15s, which the run counts as refused. */
+static void last_rich(Log *l)
+{
+    put(l, order_of(0x003FFF, 1, 1));          /* 15 */
+    put(l, order_of(0xFFFFFF, 0, 4));          /* 4 */
+    put(l, order_of(0x013FFFFF, 1, 1));        /* 21: an RIU */
+    put(l, rec5(EV_UP, 0x013FFFFF));           /* 155 */
+    put(l, message_of(0x013FFFFF, 32, 0x11));  /* 159 */
+    put(l, order_of(0x007FFF, 0, 1));          /* 15 */
+    put(l, message_of(0x003FFF, 38, 0));       /* 3 */
+    put(l, message_of(A, 38, 0));              /* 159 */
+    put(l, order_of(0x00BFFF, 0, 1));          /* 5 */
+    put(l, rec5(EV_LOST, A));                  /* 21 */
+    put(l, rec5(EV_TIMEOUT, 0x00BFFF));        /* 3 */
+    put(l, rec5(EV_DROP, A));                  /* 22 */
+    put(l, order_of(0x5ABFFF, 0, 1));          /* 21 to A */
+    put(l, rec5(EV_UP, A));                    /* 155 */
+    put(l, message_of(A, 32, 0x30));           /* 154 156 */
+    put(l, order_of(0x003FFF, 1, 1));          /* 5 */
+    put(l, message_of(A, 39, 0));              /* 22 */
+    put(l, message_of(A_1, 38, 0));            /* 159 */
+    put(l, message_of(A_2, 38, 0));            /* 159 */
+    put(l, rec5(EV_LOST, A_2));                /* 21 */
+    put(l, rec5(EV_DROP, A_2));                /* 22 */
+    put(l, order_of(0xFFFFFF, 0, 1));          /* 156 21: to A_2 */
+    put(l, rec2(EV_END_ALL, 1));               /* 156 22 */
+    put(l, rec5(EV_LOST, 0x013FFFFF));         /* 22 */
+    put(l, rec5(EV_LOST, A_1));                /* 22 */
+}
+
+static void last_runs(void)
+{
+    static Log l;
+    Rng g = {0x1A57F15EED0001u};
+    for (unsigned m = 1; m <= 9; m += 4) {
+        State s = with_n(1, 2, m);
+        RunResult x;
+        State t = s;
+        l.n = l.records = 0;
+        last_rich(&l);
+        run_once(&t, l.b, l.n, 0xFFFFFFFF, &x);        /* by hand: what stands beside its records */
+        if (x.read != 25 || x.refused != 7 || x.total[0] != 5 || x.total[1] != 6 || x.total[2] != 1 ||
+            x.total[3] != 2 || x.total[4] != 3 || x.total[5] != 4 || t.last != (KNOWN | A_2))
+            fail("another run by hand");
+        for (unsigned budget = 0; budget <= l.records + 1; budget += m == 5 ? 1 : 5)
+            run_vector(11, &s, l.b, l.n, budget, 0, budget < l.records ? 1 : 0);
+        s.last = KNOWN | A_3;
+        run_vector(11, &s, l.b, l.n, 0xFFFFFFFF, 0, 0);
+        long_vector(11, &s, l.b, l.n, 200000, 0xFFFFFFFF, 0, ANY);
+        s.last = 0;
+        long_vector(11, &s, l.b, l.n, LOG_MOST, 0xFFFFFFFF, 0, ANY);
+    }
+    /* 15 alone, again and again */
+    for (unsigned i = 0; i < last_likes; i++) {
+        State s = with_n(1, 2, i % 9 + 1);
+        l.n = l.records = 0;
+        put(&l, order_of(last_like[i], i % 2, 1));
+        run_vector(11, &s, l.b, l.n, 1, 0, 0);
+        put(&l, order_of(last_like[i], i % 2, 1));
+        put(&l, rec5(EV_TIMEOUT, last_like[i]));       /* 3 */
+        put(&l, message_of(A, 38, 0));
+        put(&l, order_of(last_like[i], i % 2, 1));     /* 5 */
+        run_vector(11, &s, l.b, l.n, 2 + i % 5, 0, i % 5 < 3 ? 1 : 0);
+    }
+    const Rec r = order_of(0x00FFFF, 1, 1);
+    State s = with_x(1, 2);
+    long_vector(11, &s, r.b, r.n, LOG_MOST, 0xFFFFFFFF, 0, ANY);
+    s.last = KNOWN | A;
+    long_vector(11, &s, r.b, r.n, 70000, 0xFFFFFFFF, 0, 0);
+    /* random logs, from cold and from where the one before ended */
+    for (unsigned i = 0; i < 30; i++) {
+        if (i % 6 == 0)
+            s = with_n(i % 3, 1 + i % 7, gen_n(&g));
+        State t = s;
+        l.n = l.records = 0;
+        const unsigned m = 30 + rng_below(&g, 60);
+        for (unsigned k = 0; k < m; k++) {
+            Rec q;
+            uint8_t a[ACTION_BUFFER];
+            q.n = gen_record_last(&g, &t, true, q.b);
+            put(&l, q);
+            step(&t, q.b, q.n, a, sizeof a);
+        }
+        if (i % 3 == 0)
+            run_vector(11, &s, l.b, l.n, m - 1 - rng_below(&g, m - 1), 0, 1);
+        else
+            run_vector(11, &s, l.b, l.n, i % 3 == 1 ? m : 0xFFFFFFFF, 0, 0);
+        s = t;
+    }
+}
+
+static void last_histories(void)
+{
+    /* by hand: a 159 to an RIU makes none known; each 159 to an RBC does, the latest counts */
+    for (unsigned m = 1; m <= 9; m += 2) {
+        static const struct { uint8_t code; uint32_t last; } want[] = {
+            {15, 0}, {0, 0}, {0, 0}, {0, 0}, {15, 0}, {0, KNOWN | A}, {5, KNOWN | A}, {0, KNOWN | A}, {0, KNOWN | A},
+            {0, KNOWN | A}, {0, KNOWN | A}, {0, KNOWN | A_1}, {5, KNOWN | A_1}, {0, KNOWN | A_1}, {0, KNOWN | A_1},
+            {0, KNOWN | A_1}, {0, KNOWN | A_1}, {5, KNOWN | A_1}, {0, KNOWN | A_1}, {0, KNOWN | A_1},
+            {0, KNOWN | A_1}, {0, KNOWN | A_1}, {0, KNOWN | A_1}, {0, KNOWN | A_1},
+        };
+        const Rec r[] = {
+            order_of(0x003FFF, 1, 1), order_of(A_RIU, 1, 1), rec5(EV_UP, A_RIU), message_of(A_RIU, 32, 0x10),
+            order_of(0x003FFF, 1, 1), message_of(A, 38, 0), order_of(0xFFFFFF, 1, 1), rec5(EV_DROP, A),
+            message_of(A, 39, 0), order_of(A_1, 1, 1), rec5(EV_UP, A_1), message_of(A_1, 32, 0x20),
+            order_of(0x407FFF, 1, 1), rec5(EV_LOST, A_1), rec5(EV_DROP, A_1), rec2(EV_MISSION, 0),
+            order_of(0x00BFFF, 0, 1), order_of(0x003FFF, 1, 1), rec5(EV_UP, A_1), message_of(A_1, 32, 0x00),
+            rec2(EV_END_ALL, 0), message_of(A_1, 39, 0), rec5(EV_LOST, A_RIU), order_of(0x803FFF, 0, 1),
+        };
+        enum { N = sizeof r / sizeof r[0] };
+        _Static_assert(sizeof want / sizeof want[0] == N, "an expectation for each record");
+        State s;
+        history_begin(11, 1, 2, m, N, &s);
+        for (unsigned i = 0; i < N; i++) {
+            history_step(&s, r[i].b, r[i].n, i <= N / 2, want[i].code);
+            if (s.last != want[i].last)
+                fail("another last known RBC by hand");
+        }
+        State after = with_n(1, 2, m);
+        hold(&after, 0, A_1, CONNECTING, OUTGOING, 1);
+        after.last = KNOWN | A_1;
+        if (!same(&s, &after))
+            fail("another state by hand");
+        state_expected(&s);
+        end();
+    }
+    /* random, with random n */
+    Rng g = {0x1A57F15EED0002u};
+    for (unsigned h = 0; h < 400; h++) {
+        uint8_t lowest, highest, r[GEN_MOST];
+        State s;
+        gen_x(&g, &lowest, &highest);
+        const unsigned records = 20 + rng_below(&g, 21);
+        history_begin(11, lowest, highest, gen_n(&g), records, &s);
+        for (unsigned k = 0; k < records; k++) {
+            const size_t length = gen_record_last(&g, &s, false, r);
+            history_step(&s, r, length, k <= records / 2, ANY);
+        }
+        state_expected(&s);
+        end();
+    }
+}
+
+static void last(void)
+{
+    make_likes();
+    last_orders();
+    last_events();
+    last_known();
+    last_unsound();
+    last_mixes();
+    last_runs();
+    last_histories();
+}
+
+/* ---- group 12: kinds ---- */
+
+static bool full;
+
+/* The bytes of an image from 'from' on, each at all 256 values. An A1 image shares its body with
+ * A2: if not 'full', it has behind its kind the values 0 to 16, 62 to 64 and so on, and the
+ * neighbours of its own. */
+static bool edge_value(unsigned v, unsigned own)
+{
+    return full || v <= 16 || (v & 63) >= 62 || (v & 63) == 0 || v == 32 || v == 0xA1 || v == 0xA2 ||
+           (v + 2 > own && v < own + 2);
+}
+
+static void sweep(const uint8_t *image, size_t length, size_t from)
+{
+    uint8_t b[IMAGE_BYTES];
+    memcpy(b, image, length);
+    for (size_t at = from; at < length; at++) {
+        for (unsigned v = 0; v < 256; v++) {
+            if (length == OLD_IMAGE_BYTES && at > 0 && !edge_value(v, image[at]))
+                continue;
+            b[at] = (uint8_t)v;
+            if (length == OLD_IMAGE_BYTES || (at + v) % 2)
+                read_vector(12, b, length, ANY);
+            else
+                read_new_vector(12, b, length, ANY);
+        }
+        b[at] = image[at];
+    }
+}
+
+static unsigned kind_states(State *out)
+{
+    unsigned c = 0;
+    State s = with_x(1, 2);                    /* fits A1 */
+    s.level = 3;
+    s.mission = 2;
+    set_marks(&s, 6);
+    hold(&s, 0, 0x00127F20, LOST, INCOMING, 2);        /* its low byte alone keeps it from meaning the last */
+    hold(&s, 2, 0x01C4BFFF, CONNECTING, OUTGOING, 3);  /* its type alone */
+    hold(&s, 3, 0x00C720FF, ENDING, INCOMING, 1);      /* its middle byte alone */
+    out[c++] = s;
+
+    s.n = 5;                                   /* the same, five tries, and known */
+    s.tries[0] = 4;
+    s.tries[2] = 5;
+    s.last = KNOWN | 0x00413F20;
+    out[c++] = s;
+
+    s = with_x(0, 7);                          /* full, numbers at their ends */
+    s.level = 4;
+    s.mission = 1;
+    set_marks(&s, 8);
+    hold(&s, 0, 0x00FFFFFE, OPEN, INCOMING, 0);
+    hold(&s, 1, 0x01FFFFFF, OPEN, OUTGOING, 0);
+    hold(&s, 2, 0x00000000, CONTACTING, OUTGOING, 9);
+    hold(&s, 3, 0x01000000, LOST, OUTGOING, 1);
+    s.n = 9;
+    s.last = KNOWN | 0x005A20FF;
+    out[c++] = s;
+
+    out[c++] = with_x(0, 0);                   /* cold, as refused */
+
+    s = with_n(7, 7, 3);                       /* three tries, but known: RBC 0 */
+    s.last = KNOWN;
+    hold(&s, 0, 0x00000000, ENDING, OUTGOING, 3);
+    out[c++] = s;
+
+    s = with_n(6, 7, 1);                       /* one try, none known */
+    set_marks(&s, 14);
+    hold(&s, 3, 0x00000100, LOST, OUTGOING, 1);
+    out[c++] = s;
+
+    s = with_n(2, 2, 3);                       /* four tries would be needed */
+    s.n = 4;
+    hold(&s, 1, 0x00000100, CONNECTING, OUTGOING, 4);
+    out[c++] = s;
+    return c;
+}
+
+static bool fits_old(const State *s) { return s->n == 3 && s->last == 0; }
+
+static void kinds(void)
+{
+    State s[8];
+    uint8_t b[256];
+    const unsigned c = kind_states(s);
+
+    /* each state by both writers, and read by both readers; there and back */
+    for (unsigned i = 0; i < c; i++) {
+        static const uint8_t fills[4] = {0x00, 0xFF, 0xA1, 0xA2};
+        for (unsigned length = 0; length <= 50; length++) {
+            if (i > 2 && length != 0 && (length < 36 || length > 38) && (length < 41 || length > 43))
+                continue;
+            store_vector(12, &s[i], length, fills[(i + length) % 4], length < 42 ? 10 : 0);
+            store_old_vector(12, &s[i], length, fills[(i + length + 1) % 4],
+                             length < 37 ? 10 : fits_old(&s[i]) ? 0 : 16);
+        }
+        store_vector(12, &s[i], 255, fills[i % 4], 0);
+        store_old_vector(12, &s[i], 255, fills[i % 4], fits_old(&s[i]) ? 0 : 16);
+        for (unsigned kind = 0; kind < 2; kind++) {
+            memset(b, 0, sizeof b);
+            if (kind == 0)
+                image_store_old(&s[i], b);     /* of a state that does not fit: an old box's image */
+            else
+                image_store(&s[i], b);
+            for (unsigned length = 0; length <= 50; length++) {
+                if (i > 1 && length > 2 && (length < 35 || length > 44))
+                    continue;
+                const bool over = kind == 0 && (i == 1 || i == 2 || i == 6);   /* tries over three */
+                read_vector(12, b, length, length == 0 ? 1 : kind == 0 ? (length != 37 ? 1 : over ? 11 : 0) :
+                            length != 42 ? 1 : 0);
+                read_new_vector(12, b, length, length == 0 ? 1 : kind == 0 ? 2 : length != 42 ? 1 : 0);
+            }
+            read_vector(12, b, 255, 1);
+            read_new_vector(12, b, 255, kind == 0 ? 2 : 1);
+        }
+    }
+
+    /* unsound, too small, not fitting: 10, 11, 16 in this order, in each pair */
+    for (unsigned i = 0; i < c; i++)
+        for (unsigned how = 0; how < 8; how++) {
+            State u = s[i];
+            if (how < 5)
+                u = unsound(s[i], how);
+            else if (how == 5)
+                u.n = (uint8_t)(i % 2 ? 0 : 10 + 50 * i / 2);
+            else if (how == 6)
+                u.last = KNOWN | 0x3FFF | 0x4000u << i;
+            else
+                hold(&u, 1, 0x003FFF | 0x8000u << i, OPEN, OUTGOING, 0);
+            store_vector(12, &u, 42 + how, next_fill(), 11);
+            store_vector(12, &u, 41 - how, next_fill(), 10);
+            store_old_vector(12, &u, 37 + how, next_fill(), 11);
+            store_old_vector(12, &u, 36 - how, next_fill(), 10);
+        }
+    /* which states fit A1: every n, known or not */
+    for (unsigned tries = 0; tries <= 11; tries++)
+        for (unsigned k = 0; k < 5; k++) {
+            State t = with_n(1, 2, tries);
+            t.last = (uint32_t[]){0, KNOWN, KNOWN | A, KNOWN | 0x00FFFFFE, KNOWN | 3}[k];
+            if (tries > 0 && k % 2)
+                hold(&t, tries % 4, A, CONNECTING, OUTGOING, tries > 3 ? 3 : tries);
+            const bool good = tries >= 1 && tries <= 9;
+            store_old_vector(12, &t, 37, next_fill(), !good ? 11 : tries == 3 && k == 0 ? 0 : 16);
+            store_vector(12, &t, 42, next_fill(), good ? 0 : 11);
+            image_store(&t, b);
+            read_vector(12, b, 42, good ? 0 : 11);
+        }
+
+    for (unsigned tries = 1; tries <= 9; tries++)
+        for (unsigned k = 0; k < 4; k++) {     /* none known, places held with few tries or many */
+            State t = with_n(0, 7, tries);
+            hold(&t, k, k % 2 ? A : A_RIU, k == 2 ? OPEN : LOST, OUTGOING, k == 2 ? 0 : k == 3 ? tries : 1);
+            set_head(&t, tries + 2 * k);
+            store_old_vector(12, &t, (uint8_t[]){37, 42, 38, 255}[k], next_fill(), tries == 3 ? 0 : 16);
+            store_old_vector(12, &t, 36, next_fill(), 10);
+            t.last = KNOWN | (k % 2 ? A : 0);
+            store_old_vector(12, &t, (uint8_t[]){42, 37, 255, 40}[k], next_fill(), 16);
+        }
+
+    /* every kind: of an A1 image, an A2 image, and of one byte */
+    for (unsigned kind = 0; kind < 256; kind++) {
+        memset(b, 0, sizeof b);
+        image_store(&s[3], b);                 /* its first 37 bytes are the A1 image's */
+        b[0] = (uint8_t)kind;
+        read_vector(12, b, 42, kind == 0xA2 ? 0 : kind == 0xA1 ? 1 : 2);
+        read_vector(12, b, 37, kind == 0xA1 ? 0 : kind == 0xA2 ? 1 : 2);
+        read_new_vector(12, b, 42, kind == 0xA2 ? 0 : 2);
+        if (kind % 8 == 1 || (kind > 0x9E && kind < 0xA5)) {
+            read_new_vector(12, b, 37, kind == 0xA2 ? 1 : 2);
+            read_vector(12, b, 1, kind == 0xA1 || kind == 0xA2 ? 1 : 2);
+            read_new_vector(12, b, 1, kind == 0xA2 ? 1 : 2);
+        }
+    }
+
+    /* images of old boxes: an RBC in a place that means the last known one, or more than 3 tries */
+    for (unsigned i = 0; i < last_likes; i++)
+        for (unsigned place = 0; place < PLACES; place++) {
+            State t = with_x(1, 2);
+            hold(&t, place, last_like[i], (i + place) % 5 + 1, OUTGOING, (i + place) % 5 + 1 == OPEN ? 0 : 2);
+            image_store_old(&t, b);
+            read_vector(12, b, 37, 11);
+            image_store(&t, b);
+            read_vector(12, b, 42, 11);
+            b[9 + 7 * place + 3] = 1;          /* an RIU of that number */
+            read_new_vector(12, b, 42, 0);
+            b[0] = 0xA1;
+            read_vector(12, b, 37, 0);
+        }
+    for (unsigned i = 0; i < miss_likes; i++) {
+        State t = with_x(1, 2);
+        hold(&t, i % 4, miss_like[i], i % 5 + 1, OUTGOING, i % 5 + 1 == OPEN ? 0 : 3);
+        image_store_old(&t, b);
+        read_vector(12, b, 37, 0);
+        t.last = KNOWN | miss_like[i];
+        image_store(&t, b);
+        read_vector(12, b, 42, 0);
+    }
+    for (unsigned phase = CONNECTING; phase <= ENDING; phase++)
+        for (unsigned t = 0; t <= 11; t++)
+            for (unsigned m = 0; m <= 10; m++) {
+                State x = with_n(1, 2, m);
+                image_store(&x, b);
+                uint8_t *const p = b + 9 + 7 * ((phase + t + m) % 4);
+                p[0] = (uint8_t)phase;
+                p[2] = (uint8_t)t;
+                p[6] = 7;
+                const bool good = m >= 1 && m <= 9 && (phase == OPEN ? t == 0 : t >= 1 && t <= m);
+                read_vector(12, b, 42, good ? 0 : 11);
+                if (m == 3) {                  /* whatever an A1 image's box had for n, it is 3 */
+                    b[0] = 0xA1;
+                    read_vector(12, b, 37, good ? 0 : 11);
+                }
+            }
+    /* flag and number of the last known RBC */
+    for (unsigned i = 0; i < 40; i++) {
+        static const uint8_t flags[5] = {0, 1, 2, 128, 255};
+        const unsigned flag = flags[i % 5], at = i / 5 % 4;
+        image_store(&s[i % 2], b);
+        memset(b + 38, 0, 4);
+        b[38] = (uint8_t)flag;
+        if (at > 0)
+            b[38 + at] = (uint8_t)(i < 20 ? 1 : 255);
+        const unsigned want = flag == 1 || (flag == 0 && at == 0) ? 0 : 11;
+        read_vector(12, b, 42, want);
+        read_new_vector(12, b, 42, want);
+    }
+    for (unsigned i = 0; i < last_likes; i++) {
+        image_store(&s[1], b);
+        b[39] = (uint8_t)(last_like[i] >> 16);
+        b[40] = (uint8_t)(last_like[i] >> 8);
+        b[41] = (uint8_t)last_like[i];
+        read_vector(12, b, 42, 11);
+        read_new_vector(12, b, 42, 11);
+        b[38] = 0;
+        read_vector(12, b, 42, 11);
+    }
+
+    /* each byte of an A2 image; the number's last two of another; flag and number where none is known */
+    image_store(&s[1], b);
+    sweep(b, IMAGE_BYTES, 0);
+    image_store(&s[2], b);
+    sweep(b, IMAGE_BYTES, 40);
+    image_store(&s[3], b);
+    sweep(b, IMAGE_BYTES, 38);
+    image_store_old(&s[0], b);
+    sweep(b, OLD_IMAGE_BYTES, 0);
+}
+
 /* ---- the program ---- */
 
 static void make_all(void)
@@ -2002,6 +3330,9 @@ static void make_all(void)
     buffers();
     runs();
     histories();
+    tries();
+    last();
+    kinds();
 }
 
 static void list(void)
@@ -2013,13 +3344,13 @@ static void list(void)
         op_of[vectors[i].group][vectors[i].op]++;
     }
     for (int g = 1; g <= GROUPS; g++) {
-        printf("group %d %-9s %5zu vectors %8zu bytes  ", g, group_name[g], vectors_of[g], bytes_of[g]);
+        printf("group %-2d %-9s %5zu vectors %8zu bytes  ", g, group_name[g], vectors_of[g], bytes_of[g]);
         for (int o = 1; o <= OPS; o++)
             if (op_of[g][o])
                 printf(" op %d: %zu", o, op_of[g][o]);
         putchar('\n');
     }
-    printf("all               %5zu vectors %8zu bytes\n", count, used);
+    printf("all                %5zu vectors %8zu bytes\n", count, used);
 }
 
 static int put_file(const char *name, const uint8_t *b, size_t length)
@@ -2034,8 +3365,8 @@ static int put_file(const char *name, const uint8_t *b, size_t length)
 
 static int small(const char *name, unsigned long spoil)
 {
-    const unsigned byte = spoil > SPOIL_PHASE ? 2 : spoil > SPOIL_PLACE ? 1 : 0;     /* 1 place, 2 phase */
-    spoil -= byte == 2 ? SPOIL_PHASE : byte == 1 ? SPOIL_PLACE : 0;
+    const unsigned long byte = spoil / SPOIL_PART;
+    spoil %= SPOIL_PART;
     static uint8_t out[60000];
     static uint8_t take[sizeof vectors / sizeof vectors[0]];
     size_t length = 0, chosen = 0;
@@ -2064,17 +3395,32 @@ static int small(const char *name, unsigned long spoil)
         }
         memcpy(out + length, bytes + v->at - 2, v->length + 2);
         chosen++;
-        if (chosen == spoil && byte > 0) {
-            const uint32_t at = v->place_at + byte - 1;
+        if (chosen == spoil && (byte == SPOIL_PLACE || byte == SPOIL_PHASE)) {
+            const uint32_t at = v->place_at + (byte == SPOIL_PHASE);
             uint8_t *const b = out + length + 2 + at;
             const uint8_t old = *b;
             if (v->place_at == 0) {
                 fprintf(stderr, "vector %zu (group %u, op %u) expects no place\n", chosen, v->group, v->op);
                 return 1;
             }
-            *b = byte == 1 ? (old == PLACES ? 0 : old ^ 1) : old % ENDING + 1;
+            *b = byte == SPOIL_PLACE ? (old == PLACES ? 0 : old ^ 1) : old % ENDING + 1;
             printf("spoiled vector %zu (group %u, op %u): body byte %u, %s with code %u, %u instead of %u\n",
-                   chosen, v->group, v->op, at, byte == 1 ? "place" : "phase", b[-1 - (int)byte], *b, old);
+                   chosen, v->group, v->op, at, byte == SPOIL_PLACE ? "place" : "phase",
+                   b[byte == SPOIL_PLACE ? -2 : -3], *b, old);
+        } else if (chosen == spoil && byte >= SPOIL_N) {
+            /* a known RBC has another number, one that is not known becomes RBC 0 */
+            uint32_t at = byte == SPOIL_N ? v->n_at : v->last_at;
+            if (at == 0 || byte > SPOIL_LAST) {
+                fprintf(stderr, "vector %zu (group %u, op %u) expects no such byte\n", chosen, v->group, v->op);
+                return 1;
+            }
+            if (byte == SPOIL_LAST && out[length + 2 + at] == 1)
+                at += 1 + (uint32_t)chosen % 3;
+            uint8_t *const b = out + length + 2 + at;
+            const uint8_t old = *b;
+            *b = byte == SPOIL_N ? old % TRIES_MOST + 1 : old ^ 1;
+            printf("spoiled vector %zu (group %u, op %u): body byte %u, %s, %u instead of %u\n", chosen, v->group,
+                   v->op, at, byte == SPOIL_N ? "n of the expected state" : "last known RBC of the expected state", *b, old);
         } else if (chosen == spoil) {
             const char *what = "expected code";
             uint32_t at = v->code_at;
@@ -2108,7 +3454,8 @@ int main(int argc, char **argv)
         list();
         return 0;
     }
-    if (argc == 3 && strcmp(argv[1], "write") == 0) {
+    if (argc == 3 && (strcmp(argv[1], "write") == 0 || strcmp(argv[1], "write-full") == 0)) {
+        full = strcmp(argv[1], "write-full") == 0;
         make_all();
         return put_file(argv[2], bytes, used);
     }
@@ -2120,6 +3467,6 @@ int main(int argc, char **argv)
             return small(argv[2], spoil);
         }
     }
-    fputs("usage: vectors list | write FILE | write-small FILE SPOIL\n", stderr);
+    fputs("usage: vectors list | write FILE | write-full FILE | write-small FILE SPOIL\n", stderr);
     return 2;
 }

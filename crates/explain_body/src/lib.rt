@@ -1,16 +1,19 @@
-// The body of `explain` and `explains`: a line for each record of a log, which is shown before it is applied, then why the log ends
-// there, and the places as they stand. It cold starts with X from 1 to 2, as `sheet` does.
+// The bodies of `show_image` and `show_images` (file stored), and of `explain` and `explains`: a line for each record of a log, which is
+// shown before it is applied, then why the log ends there, the places as they stand, and the last known RBC. It cold starts with X from 1 to 2 and three tries, as `sheet` does.
 mod print;
 mod show;
+pub mod stored;
 mod words;
 
 use crate::print::number;
 use crate::print::say;
 use crate::show::show_answer;
+use crate::show::show_last;
 use crate::show::show_places;
 use crate::show::show_record;
 use crate::words::refusal_words;
 use crate::words::stop_words;
+use place::limits::FLEET_TRIES;
 use place::limits::Limits;
 use record::event::Reading;
 use record::take::NOTHING_LEFT;
@@ -121,6 +124,7 @@ fn through(log: &[u8]) -> Walk {
     let start = cold_start(Limits {
         lowest: 1,
         highest: 2,
+        tries: FLEET_TRIES,
     });
     let state = start.state;
     let mut so_far = Walk {
@@ -145,7 +149,10 @@ fn through(log: &[u8]) -> Walk {
 
 fn show_all(fd: i32, room: &mut [u8]) {
     let n = io::read_full(fd, room);
-    show_places(through(&room[..n]).state);
+    let end = through(&room[..n]);
+    let state = end.state;
+    show_places(state);
+    show_last(state);
 }
 
 // A reference to an array of this length is lent on as a slice with no proof; an array of a million zeros is not.

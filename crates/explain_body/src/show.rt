@@ -15,10 +15,12 @@ use record::event::Event;
 use record::event::PartnerEvent;
 use record::event::Reading;
 use record::partner::Partner;
+use record::partner::RBC;
 use unit::answer::Action;
 use unit::answer::Actions;
 use unit::answer::Answer;
 use unit::answer::MOST_ACTIONS;
+use unit::last::Last;
 use unit::search::Standing;
 use unit::state::PLACES;
 use unit::state::State;
@@ -39,7 +41,16 @@ fn partner_words(partner: Partner) {
     number(partner.high as u64 * 65536 + partner.middle as u64 * 256 + partner.low as u64);
 }
 
-fn level_words(level: u32, manual: bool) {
+// The partner of an order, which may be the last known RBC.
+fn ordered_words(partner: Partner) {
+    if partner.is_reserved() {
+        say(b"the last known RBC");
+    } else {
+        partner_words(partner);
+    }
+}
+
+pub(crate) fn level_words(level: u32, manual: bool) {
     say(b"level ");
     if level == LEVEL_NTC {
         say(b"NTC");
@@ -127,7 +138,7 @@ fn event_words(event: Event, first: u8) {
             cause,
         } => {
             say(b"order to ");
-            partner_words(partner);
+            ordered_words(partner);
             accepting_words(accepting);
             cause_words(cause);
         }
@@ -227,6 +238,24 @@ fn show_place(i: u64, place: Place) {
     number(i);
     say(b": ");
     place_words(place);
+    say(b"\n");
+}
+
+// The last known RBC, or that there is none.
+pub(crate) fn show_last(state: State) {
+    let last = state.last;
+    say(b"last known: ");
+    match last {
+        Last::Unknown => say(b"none"),
+        Last::Known { high, middle, low } => {
+            partner_words(Partner {
+                kind: RBC,
+                high,
+                middle,
+                low,
+            })
+        }
+    }
     say(b"\n");
 }
 

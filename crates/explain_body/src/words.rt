@@ -29,6 +29,8 @@ use wire::refusal::CALL_FROM_RIU;
 use wire::refusal::HAS_NONE;
 use wire::refusal::HAS_PLACE;
 use wire::refusal::LOG_TOO_LONG;
+use wire::refusal::NONE_KNOWN;
+use wire::refusal::NOT_IN_A1;
 use wire::refusal::NOT_IN_FORCE;
 use wire::refusal::NOT_SOUND;
 use wire::refusal::NOT_TAKEN;
@@ -47,9 +49,21 @@ pub(crate) fn refusal_words(code: u8) {
         NOT_TAKEN => say(b"the phase or the hole mark does not take this event"),
         ALL_TAKEN => say(b"all places are taken"),
         CALL_FROM_RIU => say(b"a call from an RIU"),
+        NONE_KNOWN => say(b"no RBC is known yet"),
         NOT_SOUND => say(b"the state is not sound"),
         LOG_TOO_LONG => say(b"the log is longer than 1048576 bytes"),
         _ => say(b"a number that no record gets"),
+    }
+}
+
+// Why an image cannot be read or written.
+pub(crate) fn image_refusal_words(code: u8) {
+    match code {
+        WRONG_LENGTH => say(b"the image is empty or not of its kind's length"),
+        UNKNOWN_KIND => say(b"the kind is neither A1 nor A2"),
+        NOT_SOUND => say(b"the content is not sound"),
+        NOT_IN_A1 => say(b"the tries are not 3, or an RBC is known"),
+        _ => say(b"a number that no image gets"),
     }
 }
 

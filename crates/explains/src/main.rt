@@ -1,4 +1,5 @@
-// Four logs in words, each after its name: empty, an unknown kind, too long, and one that leaves places in every phase but Ending.
+// Five logs in words, each after its name: empty, an unknown kind, too long, one that leaves places in every phase but Ending, and
+// orders to the last known RBC.
 use libc::STDOUT_FILENO;
 
 fn explain_of(name: &[u8], path: &[u8]) {
@@ -17,4 +18,5 @@ fn main() {
     explain_of(b"unknown\n", b"unknown.bin");
     explain_of(b"long\n", b"long.bin");
     explain_of(b"places\n", b"places.bin");
+    explain_of(b"last\n", b"last.bin");
 }

@@ -1,9 +1,9 @@
--- What holds all along a history: a cold start is sound and holds nobody, and every history keeps a state sound.
--- Proves: cold-light, after-sound.
-use mathlib.Core.Path.{_≡_, refl}
+-- What holds all along a history: a cold start is sound and holds nobody, and every history keeps a state sound and its limits.
+-- Proves: cold-light, after-sound, after-limits.
+use mathlib.Core.Path.{_≡_, refl, _∙_}
 use mathlib.Core.Bool.{Bool, true}
 use mathlib.Core.List.{List, [], _∷_}
-use Prim.Native.Nat.{ℕ, _≤_}
+use Prim.Native.Nat.{ℕ}
 use Rattle.wire.specs.Refusals.{accepted, badLimits}
 use Rattle.record.specs.declared.partner.Partner.{Partner}
 use Rattle.wire.proofs.Tests.{cond-holds}
@@ -13,6 +13,7 @@ use Rattle.unit.specs.OnRecords.{trace, actionRoom, onRecord}
 use Rattle.unit.specs.declared.state.State.{State}
 use Rattle.unit.specs.declared.start.Started.{Started}
 use Rattle.unit.specs.Kept.{weigh}
+use Rattle.unit.proofs.Effects.{onRecord-limits}
 use Rattle.unit.proofs.Sound.{onRecord-sound}
 use Rattle.history.specs.Histories.{endOf, after}
 use Rattle.unit.proofs.Scales.{Scale}
@@ -28,13 +29,17 @@ cold-light σ mine l =
     refl
 
 -- every state after a sound one is sound
-pub after-sound : (n : ℕ)
-    → 1 ≤ n
-    → (s : State)
-    → sound n s ≡ true
+pub after-sound : (s : State)
+    → sound s ≡ true
     → (history : List (List ℕ))
-    → sound n (after n s history) ≡ true
+    → sound (after s history) ≡ true
 unfolding after endOf trace
-after-sound n some-try s ok [] = ok
-after-sound n some-try s ok (bytes ∷ history) =
-    after-sound n some-try (onRecord n s bytes actionRoom .state) (onRecord-sound n some-try s bytes actionRoom ok) history
+after-sound s ok [] = ok
+after-sound s ok (bytes ∷ history) =
+    after-sound (onRecord s bytes actionRoom .state) (onRecord-sound s bytes actionRoom ok) history
+
+-- and has its limits
+pub after-limits : (s : State) (history : List (List ℕ)) → after s history .limits ≡ s .limits
+unfolding after endOf trace
+after-limits s [] = refl
+after-limits s (bytes ∷ history) = after-limits (onRecord s bytes actionRoom .state) history ∙ onRecord-limits s bytes actionRoom

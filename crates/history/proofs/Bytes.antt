@@ -138,12 +138,12 @@ abbrev pub Unread : Outcome → Reading → Type 0
 Unread o (Meant e) = Unit
 Unread o (Refused r) = eqb (o .code) accepted ≡ false
 
-pub unread : (n : ℕ) (s : State) (bytes : List ℕ) → Unread (onRecord n s bytes actionRoom) (reading bytes)
+pub unread : (s : State) (bytes : List ℕ) → Unread (onRecord s bytes actionRoom) (reading bytes)
 unfolding onRecord
-unread n s bytes = by (reading bytes) (reading-ok bytes)
+unread s bytes = by (reading bytes) (reading-ok bytes)
   where
-    by : (r : Reading) → readingOk r ≡ true → Unread (cond (sound n s) (onReading n s r) (refused notSound s)) r
+    by : (r : Reading) → readingOk r ≡ true → Unread (cond (sound s) (onReading s r) (refused notSound s)) r
     by (Meant e) ok = tt
     by (Refused r) ok =
         let some = leb-true wrongLength r (and-left (leb wrongLength r) (leb r outOfRange) ok) in
-        cond-holds (λ o. Unread o (Refused r)) (sound n s) (refused r s) (refused notSound s) (ne-eqb r accepted (λ e. omega arith)) refl
+        cond-holds (λ o. Unread o (Refused r)) (sound s) (refused r s) (refused notSound s) (ne-eqb r accepted (λ e. omega arith)) refl

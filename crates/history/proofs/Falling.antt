@@ -65,10 +65,10 @@ pub record Fair (n : ℕ) (k : Numbers) : Type 0 where
   pub established : 1 + k .opened ≤ k .contacting + k .version
   pub restored : k .opened ≤ k .lost + k .up
 
-module _ (n : ℕ) (k : Numbers) (some-try : 1 ≤ n) (fair : Fair n k) where
+module _ (l : Limits) (k : Numbers) (some-try : 1 ≤ l .tries) (fair : Fair (l .tries) k) where
   -- their scale
   abbrev σ : Scale
-  σ = fallings n k
+  σ = fallings (l .tries) k
 
   -- no closing costs more than its place weighs
   closings : (ph : Phase) → Turned atMost σ ph 0 (closing ph)
@@ -79,23 +79,23 @@ module _ (n : ℕ) (k : Numbers) (some-try : 1 ≤ n) (fair : Fair n k) where
   closings (Ending t) = omega arith
 
   -- nor any cell of the table, with what its column brings
-  rows : (l : Limits) (ph : Phase) (v : ℕ) → Beside (λ c b. Turned atMost σ ph b (play n l ph v c)) (table ph) (σ .columns)
-  rows l (Connecting t) v =
-      omega arith ▹ omega arith ▹ omega arith ▹ again-turned atMost n σ _ (Connecting t) 0 (omega arith) (omega arith) ▹ omega arith
-  rows l (Contacting t) v =
+  rows : (ph : Phase) (v : ℕ) → Beside (λ c b. Turned atMost σ ph b (play l ph v c)) (table ph) (σ .columns)
+  rows (Connecting t) v =
+      omega arith ▹ omega arith ▹ omega arith ▹ again-turned atMost l σ _ (Connecting t) 0 (omega arith) (omega arith) ▹ omega arith
+  rows (Contacting t) v =
       omega arith
       ▹ omega arith
       ▹ omega arith
-      ▹ again-turned atMost n σ _ (Contacting t) 0 (omega arith) (omega arith)
+      ▹ again-turned atMost l σ _ (Contacting t) 0 (omega arith) (omega arith)
       ▹ judged-case (Turned atMost σ (Contacting t) (k .version)) l v (omega arith) (omega arith)
       ▹ omega arith
-  rows l Open v = omega arith
-  rows l (Lost t) v =
-      omega arith ▹ omega arith ▹ omega arith ▹ again-turned atMost n σ _ (Lost t) 0 (omega arith) (omega arith) ▹ omega arith
-  rows l (Ending t) v =
-      omega arith ▹ omega arith ▹ omega arith ▹ again-turned atMost n σ _ (Ending t) 0 (omega arith) (omega arith) ▹ omega arith
+  rows Open v = omega arith
+  rows (Lost t) v =
+      omega arith ▹ omega arith ▹ omega arith ▹ again-turned atMost l σ _ (Lost t) 0 (omega arith) (omega arith) ▹ omega arith
+  rows (Ending t) v =
+      omega arith ▹ omega arith ▹ omega arith ▹ again-turned atMost l σ _ (Ending t) 0 (omega arith) (omega arith) ▹ omega arith
 
   -- nor does an order or a call
-  pub falling-balanced : Balanced atMost n (fallings n k)
+  pub falling-balanced : Balanced atMost l (fallings (l .tries) k)
   falling-balanced =
-      record { ordered = omega arith; called = omega arith; closings = closings; turns = turns-by-row atMost n σ rows }
+      record { ordered = omega arith; called = omega arith; closings = closings; turns = turns-by-row atMost l σ rows }

@@ -9,13 +9,14 @@ use Prim.Native.Nat.{ℕ, zero, suc, _+_, _-_, _*_, _≤_}
 use native.Mathlib.Omega.{arith}
 use lib.Dec.{leb}
 use borrow.Author.Tests.{leb-true}
-use Rattle.record.specs.Partners.{samePartner, partnerOk}
+use Rattle.record.specs.Partners.{samePartner, namedOk}
 use Rattle.record.specs.declared.partner.Partner.{Partner}
 use Rattle.wire.proofs.Tests.{and-left, and-right, cond-case, true-false}
 use Rattle.place.specs.Places.{seat, holds, fits}
 use Rattle.place.proofs.Holdings.{holdsIn}
 use Rattle.place.specs.declared.phase.Phase.{Phase}
 use Rattle.place.specs.declared.phase.Phase.the-variants.{Connecting, Contacting, Open, Lost, Ending}
+use Rattle.place.specs.declared.limits.Limits.{Limits}
 use Rattle.place.specs.declared.place.Direction.{Direction}
 use Rattle.place.specs.declared.place.Holding.{Holding}
 use Rattle.place.specs.declared.place.Holding.the-variants.{Free, Held}
@@ -58,8 +59,8 @@ abbrev pub leftTo : ℕ → Partner → List Place → ℕ
 leftTo n p ps = total (lefts n) (samePartner p) ps
 
 -- no turn costs more than what is left and its event brings
-pub lefts-balanced : (n : ℕ) → 1 ≤ n → Balanced atMost n (lefts n)
-lefts-balanced n some-try = falling-balanced n (leftNumbers n) some-try (omega arith)
+pub lefts-balanced : (l : Limits) → 1 ≤ l .tries → Balanced atMost l (lefts (l .tries))
+lefts-balanced l some-try = falling-balanced l (leftNumbers (l .tries)) some-try (omega arith)
 
 module _ (n : ℕ) (p : Partner) where
   -- something is left in every phase
@@ -104,73 +105,77 @@ module _ (n : ℕ) (p : Partner) where
       by Free h = refl
       by (Held d ph q) h = by-test (samePartner p q) (left n ph) h
 
-  module _ (some-try : 1 ≤ n) where
-    -- tries in their range are one at the least
-    tried : (t : ℕ) (a c : Bool) → (1 + (n - t)) + 1 ≤ (n + 1) + cond (a && ((leb 1 t && leb t n) && c)) 0 1
-    tried t a c =
-        let within = leb 1 t && leb t n in
-        cond-case (λ w. (1 + (n - t)) + 1 ≤ (n + 1) + w) (a && (within && c)) 0 1
-        (λ ok.
-        let some = leb-true 1 t (and-left (leb 1 t) (leb t n) (and-left within c (and-right a (within && c) ok))) in
-        omega arith)
-        (λ other. omega arith)
+module _ (l : Limits) (some-try : 1 ≤ l .tries) (p : Partner) where
+  -- the limit of tries
+  abbrev n : ℕ
+  n = l .tries
 
-    -- so has each phase, or its place is not sound
-    phase-left : (d : Direction) (ph : Phase) (q : Partner) → left n ph + one (waitingPhase ph) ≤ (n + 1) + bad n (seat d ph q)
-    phase-left d (Connecting t) q = tried t (partnerOk q) (fits d (Connecting t) q)
-    phase-left d (Contacting t) q = tried t (partnerOk q) (fits d (Contacting t) q)
-    phase-left d Open q = omega arith
-    phase-left d (Lost t) q = tried t (partnerOk q) (fits d (Lost t) q)
-    phase-left d (Ending t) q = tried t (partnerOk q) (fits d (Ending t) q)
+  -- tries in their range are one at the least
+  tried : (t : ℕ) (a c : Bool) → (1 + (n - t)) + 1 ≤ (n + 1) + cond (a && ((leb 1 t && leb t n) && c)) 0 1
+  tried t a c =
+      let within = leb 1 t && leb t n in
+      cond-case (λ w. (1 + (n - t)) + 1 ≤ (n + 1) + w) (a && (within && c)) 0 1
+      (λ ok.
+      let some = leb-true 1 t (and-left (leb 1 t) (leb t n) (and-left within c (and-right a (within && c) ok))) in
+      omega arith)
+      (λ other. omega arith)
 
-    -- to a partner that waits one less is left than to one that does not
-    waits-left : (ps : List Place)
-        → leftTo n p ps + weigh (here (waitsAt p)) ps
-        ≤ (n + 1) * weigh (here (holds p)) ps + weigh (bad n) ps
-    unfolding weigh
-    waits-left [] = omega arith
-    waits-left (place ∷ ps) =
-        let first = by (place .holding) in
-        let rest = waits-left ps in
-        omega arith
-      where
-        by-test : (b w : Bool) (v k : ℕ) → v + one w ≤ (n + 1) + k → cond b v 0 + one (b && w) ≤ (n + 1) * one b + k
-        by-test true w v k h = omega arith
-        by-test false w v k h = omega arith
+  -- so has each phase, or its place is not sound
+  phase-left : (d : Direction) (ph : Phase) (q : Partner) → left n ph + one (waitingPhase ph) ≤ (n + 1) + bad l (seat d ph q)
+  phase-left d (Connecting t) q = tried t (namedOk q) (fits d (Connecting t) q)
+  phase-left d (Contacting t) q = tried t (namedOk q) (fits d (Contacting t) q)
+  phase-left d Open q = omega arith
+  phase-left d (Lost t) q = tried t (namedOk q) (fits d (Lost t) q)
+  phase-left d (Ending t) q = tried t (namedOk q) (fits d (Ending t) q)
 
-        by : (k : Holding)
-            → weightIn (lefts n) (samePartner p) k + one (waitsAt p (record { holding = k })) ≤ (n + 1) * one (holdsIn p k) + bad n (record { holding = k })
-        by Free = omega arith
-        by (Held d ph q) = by-test (samePartner p q) (waitingPhase ph) (left n ph) (bad n (seat d ph q)) (phase-left d ph q)
+  -- to a partner that waits one less is left than to one that does not
+  waits-left : (ps : List Place)
+      → leftTo n p ps + weigh (here (waitsAt p)) ps
+      ≤ (n + 1) * weigh (here (holds p)) ps + weigh (bad l) ps
+  unfolding weigh
+  waits-left [] = omega arith
+  waits-left (place ∷ ps) =
+      let first = by (place .holding) in
+      let rest = waits-left ps in
+      omega arith
+    where
+      by-test : (b w : Bool) (v k : ℕ) → v + one w ≤ (n + 1) + k → cond b v 0 + one (b && w) ≤ (n + 1) * one b + k
+      by-test true w v k h = omega arith
+      by-test false w v k h = omega arith
 
-    -- and it has a place that waits
-    waits-some : (ps : List Place) → waits p ps ≡ true → 1 ≤ weigh (here (waitsAt p)) ps
-    unfolding weigh some
-    waits-some [] h = true-false false h refl
-    waits-some (place ∷ ps) h = by (waitsAt p place) h (waits-some ps)
-      where
-        by : (b : Bool)
-            → (b || waits p ps) ≡ true
-            → (waits p ps ≡ true → 1 ≤ weigh (here (waitsAt p)) ps)
-            → 1 ≤ one b + weigh (here (waitsAt p)) ps
-        by true h above = omega arith
-        by false h above =
-            let rest = above h in
-            omega arith
+      by : (k : Holding)
+          → weightIn (lefts n) (samePartner p) k + one (waitsAt p (record { holding = k })) ≤ (n + 1) * one (holdsIn p k) + bad l (record { holding = k })
+      by Free = omega arith
+      by (Held d ph q) = by-test (samePartner p q) (waitingPhase ph) (left n ph) (bad l (seat d ph q)) (phase-left d ph q)
 
-    -- one place at the most, so one
-    lone : (held w : ℕ) → held ≤ 1 → w + 1 ≤ (n + 1) * held → (held ≡ 1) × (w ≤ n)
-    lone zero w few h = absurd (omega arith)
-    lone (suc zero) w few h = (refl, omega arith)
-    lone (suc (suc held)) w few h = absurd (omega arith)
+  -- and it has a place that waits
+  waits-some : (ps : List Place) → waits p ps ≡ true → 1 ≤ weigh (here (waitsAt p)) ps
+  unfolding weigh some
+  waits-some [] h = true-false false h refl
+  waits-some (place ∷ ps) h = by (waitsAt p place) h (waits-some ps)
+    where
+      by : (b : Bool)
+          → (b || waits p ps) ≡ true
+          → (waits p ps ≡ true → 1 ≤ weigh (here (waitsAt p)) ps)
+          → 1 ≤ one b + weigh (here (waitsAt p)) ps
+      by true h above = omega arith
+      by false h above =
+          let rest = above h in
+          omega arith
 
-    -- one that waits in a sound state has one place, and no more than the limit is left to it
-    pub waiting-left : (ps : List Place)
-        → PlacesFacts n ps
-        → waits p ps ≡ true
-        → (weigh (here (holds p)) ps ≡ 1) × (leftTo n p ps ≤ n)
-    waiting-left ps facts h =
-        let none = facts .0 in
-        let some = waits-some ps h in
-        let most = waits-left ps in
-        lone (weigh (here (holds p)) ps) (leftTo n p ps) (facts .1 p) (omega arith)
+  -- one place at the most, so one
+  lone : (held w : ℕ) → held ≤ 1 → w + 1 ≤ (n + 1) * held → (held ≡ 1) × (w ≤ n)
+  lone zero w few h = absurd (omega arith)
+  lone (suc zero) w few h = (refl, omega arith)
+  lone (suc (suc held)) w few h = absurd (omega arith)
+
+  -- one that waits in a sound state has one place, and no more than the limit is left to it
+  pub waiting-left : (ps : List Place)
+      → PlacesFacts l ps
+      → waits p ps ≡ true
+      → (weigh (here (holds p)) ps ≡ 1) × (leftTo n p ps ≤ n)
+  waiting-left ps facts h =
+      let none = facts .0 in
+      let some = waits-some ps h in
+      let most = waits-left ps in
+      lone (weigh (here (holds p)) ps) (leftTo n p ps) (facts .1 p) (omega arith)

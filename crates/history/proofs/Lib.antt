@@ -13,3 +13,4 @@ pub mod Tries
 pub mod Leads
 pub mod Sessions
 pub mod Reached
+pub mod LastKnown

@@ -1,7 +1,7 @@
--- Demand 3: the bounds are met, by equality, for every limit of tries and every count of orders, calls and losses that a history
+-- Demand 3: the bounds are met, by equality, for every number of tries that a cold start takes and every count of orders, calls and losses that a history
 -- can have.
 -- Proves: reached, demand-reached, p10-records, one-each, one-each-to-nine, not-sooner.
-use mathlib.Core.Path.{_≡_, refl}
+use mathlib.Core.Path.{_≡_, refl, ap, _∙_}
 use mathlib.Core.Logic.{_⊎_, inl, inr}
 use mathlib.Core.Bool.{true}
 use mathlib.Core.List.{[], _∷_, _++_, map}
@@ -9,81 +9,95 @@ use Prim.Native.Nat.{ℕ, zero, suc, _+_, _-_, _*_, _≤_, _<_}
 use native.Mathlib.Omega.{arith}
 use lib.ListN.{getD, replicate}
 use Rattle.record.specs.Records.{reading}
-use Rattle.place.specs.Places.{tryLimit}
+use Rattle.place.specs.Places.{mostTries, fleetTries}
 use Rattle.place.specs.Table.{turn}
 use Rattle.unit.specs.States.{first, seek, placesOk, sound, cold, coldStart, some}
 use Rattle.unit.specs.Steps.{closed, closingActions, step}
-use Rattle.unit.specs.OnRecords.{trace, onRecord}
+use Rattle.unit.specs.Lasts.{recalled}
+use Rattle.unit.specs.OnRecords.{trace, actionRoom, onRecord}
+use Rattle.unit.specs.declared.last.Last.{Last}
+use Rattle.unit.specs.declared.last.Last.the-variants.{Unknown}
+use Rattle.unit.specs.declared.state.State.{State}
 use Rattle.unit.specs.Examples.{examples}
-use Rattle.history.specs.Histories.{endOf, sumOver, after, summed, silent, timeouts, holdsPlace, waits, perOrder, perCall, perLoss, timeoutsToRelease}
+use Rattle.history.specs.Histories.{sumOver, after, summed, orders, calls, losses, actions, silent, timeouts, holdsPlace, waits, perOrder, perCall, perLoss, timeoutsToRelease}
 use Rattle.history.specs.Reaching.{started, rbc5, order5, timeout5, retries, lossesIn, ordering, calling, repeated, reaching, sumsOf, counts, oneToNine}
 use Rattle.history.proofs.Leads.{Leads, stays, goes-on, counted-as, again-and-again}
-use Rattle.history.proofs.Sessions.{ordering-leads, calling-leads, connecting-holds}
+use Rattle.history.proofs.Sessions.{idle, five, started-idle, ordering-leads, calling-leads, connecting-starts, connecting-holds}
 
--- no loss without a session
-reaching-leads : (n : ℕ)
-    → 1 ≤ n
-    → (a b c : ℕ)
-    → (c ≡ 0) ⊎ (0 < a + b)
-    → Leads n started (reaching n a b c) started a b c (perOrder n * a + perCall n * b + perLoss n * c)
-unfolding reaching
-reaching-leads n some-try zero zero c (inl none) =
-    counted-as n _ _ _ _ _ _ _ 0 0 c (perOrder n * 0 + perCall n * 0 + perLoss n * c) (stays n started) refl refl (omega arith) (rw none (omega arith))
-reaching-leads n some-try zero zero c (inr some) = absurd (omega arith)
-reaching-leads n some-try zero (suc b) c h =
-    counted-as n _ _ _ _ _ _ _ 0 (suc b) c (perOrder n * 0 + perCall n * suc b + perLoss n * c)
-    (goes-on n _ _ _ (calling n c) (repeated b (calling n 0)) _ _ _ _ _ _ _ _ (calling-leads n some-try c)
-    (again-and-again n started (calling n 0) _ _ _ _ (calling-leads n some-try 0) b))
-    (omega arith)
-    (omega arith)
-    (omega arith)
-    (omega arith)
-reaching-leads n some-try (suc a) b c h =
-    counted-as n _ _ _ _ _ _ _ (suc a) b c (perOrder n * suc a + perCall n * b + perLoss n * c)
-    (goes-on n _ _ _ (ordering n c) (repeated a (ordering n 0) ++ repeated b (calling n 0)) _ _ _ _ _ _ _ _ (ordering-leads n some-try c)
-    (goes-on n _ _ _ (repeated a (ordering n 0)) (repeated b (calling n 0)) _ _ _ _ _ _ _ _
-    (again-and-again n started (ordering n 0) _ _ _ _ (ordering-leads n some-try 0) a)
-    (again-and-again n started (calling n 0) _ _ _ _ (calling-leads n some-try 0) b)))
-    (omega arith)
-    (omega arith)
-    (omega arith)
-    (omega arith)
+-- the last known RBC after such a history
+abbrev knownAfter : ℕ → ℕ → Last
+knownAfter zero zero = Unknown
+knownAfter zero (suc b) = five
+knownAfter (suc a) b = five
 
--- n being the limit of tries
-pub reached : (n : ℕ)
-    → 1 ≤ n
-    → (a b c : ℕ)
-    → (c ≡ 0) ⊎ (0 < a + b)
-    → sumsOf n (reaching n a b c) ≡ counts a b c (perOrder n * a + perCall n * b + perLoss n * c)
-unfolding sumsOf
-reached n some-try a b c h =
-    let leads = reaching-leads n some-try a b c h in
-    λ i.
-    record {
-      orders = leads .ordered i;
-      calls = leads .called i;
-      losses = leads .lost i;
-      actions = leads .acted i;
-    }
+module _ (n : ℕ) (some-try : 1 ≤ n) (most : n ≤ mostTries) where
+  -- sessions that begin and end with RBC 5 as the last known
+  orders-lead : (a : ℕ) → Leads (idle n five) (repeated a (ordering n 0)) (idle n five) (1 * a) (0 * a) (0 * a) ((perOrder n + perLoss n * 0) * a)
+  orders-lead = again-and-again (idle n five) (ordering n 0) _ _ _ _ (ordering-leads n some-try most five refl 0)
+
+  calls-lead : (b : ℕ) → Leads (idle n five) (repeated b (calling n 0)) (idle n five) (0 * b) (1 * b) (0 * b) ((perCall n + perLoss n * 0) * b)
+  calls-lead = again-and-again (idle n five) (calling n 0) _ _ _ _ (calling-leads n some-try most five refl 0)
+
+  -- no loss without a session
+  reaching-leads : (a b c : ℕ)
+      → (c ≡ 0) ⊎ (0 < a + b)
+      → Leads (idle n Unknown) (reaching n a b c) (idle n (knownAfter a b)) a b c (perOrder n * a + perCall n * b + perLoss n * c)
+  unfolding reaching
+  reaching-leads zero zero c (inl none) =
+      counted-as _ _ _ _ _ _ _ 0 0 c (perOrder n * 0 + perCall n * 0 + perLoss n * c) (stays (idle n Unknown)) refl refl (omega arith) (rw none (omega arith))
+  reaching-leads zero zero c (inr some) = absurd (omega arith)
+  reaching-leads zero (suc b) c h =
+      counted-as _ _ _ _ _ _ _ 0 (suc b) c (perOrder n * 0 + perCall n * suc b + perLoss n * c)
+      (goes-on _ _ _ (calling n c) (repeated b (calling n 0)) _ _ _ _ _ _ _ _ (calling-leads n some-try most Unknown refl c) (calls-lead b))
+      (omega arith)
+      (omega arith)
+      (omega arith)
+      (omega arith)
+  reaching-leads (suc a) b c h =
+      counted-as _ _ _ _ _ _ _ (suc a) b c (perOrder n * suc a + perCall n * b + perLoss n * c)
+      (goes-on _ _ _ (ordering n c) (repeated a (ordering n 0) ++ repeated b (calling n 0)) _ _ _ _ _ _ _ _ (ordering-leads n some-try most Unknown refl c)
+      (goes-on _ _ _ (repeated a (ordering n 0)) (repeated b (calling n 0)) _ _ _ _ _ _ _ _ (orders-lead a) (calls-lead b)))
+      (omega arith)
+      (omega arith)
+      (omega arith)
+      (omega arith)
+
+  -- "each reached, proved once over n": for every n that a cold start takes
+  -- promise
+  pub reached : (a b c : ℕ)
+      → (c ≡ 0) ⊎ (0 < a + b)
+      → sumsOf n (reaching n a b c) ≡ counts a b c (perOrder n * a + perCall n * b + perLoss n * c)
+  unfolding sumsOf
+  reached a b c h =
+      let leads = reaching-leads a b c h in
+      let history = reaching n a b c in
+      let from = started-idle n some-try most in
+      λ i.
+      record {
+        orders = (ap (λ s. orders s history) from ∙ leads .ordered) i;
+        calls = (ap (λ s. calls s history) from ∙ leads .called) i;
+        losses = (ap (λ s. losses s history) from ∙ leads .lost) i;
+        actions = (ap (λ s. actions s history) from ∙ leads .acted) i;
+      }
 
 -- with the three tries of document 01
 -- promise
 pub demand-reached : (a b c : ℕ)
     → (c ≡ 0) ⊎ (0 < a + b)
-    → sumsOf tryLimit (reaching tryLimit a b c) ≡ counts a b c (11 * a + 5 * b + 3 * c)
-demand-reached = reached tryLimit (omega arith)
+    → sumsOf fleetTries (reaching fleetTries a b c) ≡ counts a b c (11 * a + 5 * b + 3 * c)
+demand-reached = reached fleetTries (omega arith) (omega arith)
 
 -- the history of one order is the marked example P10
-pub p10-records : ordering tryLimit 0 ≡ map (λ line. line .bytes) (getD examples 9 [])
+pub p10-records : ordering fleetTries 0 ≡ map (λ line. line .bytes) (getD examples 9 [])
 unfolding ordering lossesIn examples
 p10-records = refl
 
 -- by computation: one order; one call; one call and one loss
 -- promise
 pub one-each :
-    map (sumsOf tryLimit) (ordering tryLimit 0 ∷ calling tryLimit 0 ∷ calling tryLimit 1 ∷ [])
+    map (sumsOf fleetTries) (ordering fleetTries 0 ∷ calling fleetTries 0 ∷ calling fleetTries 1 ∷ [])
     ≡ counts 1 0 0 11 ∷ counts 0 1 0 5 ∷ counts 0 1 1 8 ∷ []
-unfolding reading turn first seek placesOk sound cold coldStart closed closingActions step onRecord summed lossesIn ordering calling sumsOf sumOver trace some
+unfolding reading turn first seek placesOk sound cold coldStart closed closingActions step onRecord summed lossesIn ordering calling sumsOf sumOver trace some recalled
 one-each = refl
 
 -- the same for every limit of tries from 1 to 9
@@ -91,27 +105,32 @@ one-each = refl
 pub one-each-to-nine :
     map (λ n. sumsOf n (ordering n 0) ∷ sumsOf n (calling n 0) ∷ sumsOf n (calling n 1) ∷ []) oneToNine
     ≡ map (λ n. counts 1 0 0 (perOrder n) ∷ counts 0 1 0 (perCall n) ∷ counts 0 1 1 (perCall n + perLoss n) ∷ []) oneToNine
-unfolding reading turn first seek placesOk sound cold coldStart closed closingActions step onRecord summed lossesIn ordering calling sumsOf sumOver trace some
+unfolding reading turn first seek placesOk sound cold coldStart closed closingActions step onRecord summed lossesIn ordering calling sumsOf sumOver trace some recalled
 one-each-to-nine = refl
 
--- the timeouts of RBC 5
-retries-name : (k : ℕ) → (silent rbc5 (replicate k timeout5) ≡ true) × (timeouts rbc5 (replicate k timeout5) ≡ k)
+-- the timeouts of RBC 5, from any state
+retries-name : (k : ℕ) (s : State) → (silent rbc5 s (replicate k timeout5) ≡ true) × (timeouts rbc5 (replicate k timeout5) ≡ k)
 unfolding silent timeouts reading
-retries-name zero = (refl, refl)
-retries-name (suc k) =
-    let rest = retries-name k in
+retries-name zero s = (refl, refl)
+retries-name (suc k) s =
+    let rest = retries-name k (onRecord s timeout5 actionRoom .state) in
     (rest .0, omega arith)
 
 -- one timeout less than those of a waiting partner's release does not release it
 -- promise
 pub not-sooner : (n : ℕ)
     → 1 ≤ n
-    → (waits rbc5 (after n started (order5 ∷ []) .places) ≡ true)
-    × (silent rbc5 (retries n) ≡ true)
+    → n ≤ mostTries
+    → (waits rbc5 (after (started n) (order5 ∷ []) .places) ≡ true)
+    × (silent rbc5 (after (started n) (order5 ∷ [])) (retries n) ≡ true)
     × (timeouts rbc5 (retries n) + 1 ≡ timeoutsToRelease n)
-    × (holdsPlace rbc5 (after n (after n started (order5 ∷ [])) (retries n) .places) ≡ true)
-unfolding reading first seek placesOk sound cold coldStart closed closingActions step onRecord after endOf trace some
-not-sooner n some-try =
-    let name = retries-name (n - 1) in
-    let many = name .1 in
-    (refl, name .0, omega arith, rw (connecting-holds n some-try) refl)
+    × (holdsPlace rbc5 (after (after (started n) (order5 ∷ [])) (retries n) .places) ≡ true)
+unfolding some
+not-sooner n some-try most =
+    let name = retries-name (n - 1) (after (started n) (order5 ∷ [])) in
+    let many = name .1 in (
+      ap (λ s. waits rbc5 (s .places)) (connecting-starts n some-try most),
+      name .0,
+      omega arith,
+      ap (λ s. holdsPlace rbc5 (s .places)) (connecting-holds n some-try most),
+    )

@@ -1,11 +1,12 @@
 -- One partner's session from its first action to its release, with as many actions as there can be.
--- Proves: calling-leads, connecting-holds, ordering-leads.
-use mathlib.Core.Path.{_≡_, refl, ap, subst, _∙_}
-use mathlib.Core.Bool.{true, _&&_}
+-- Defines: box, idle, five.
+-- Proves: started-idle, calling-leads, ordering-leads, connecting-starts, connecting-holds.
+use mathlib.Core.Path.{_≡_, refl, sym, ap, subst, _∙_}
+use mathlib.Core.Bool.{true, false, cond, _&&_}
 use mathlib.Core.List.{List, [], _∷_, _++_}
 use Prim.Native.Nat.{ℕ, zero, suc, _+_, _-_, _*_, _≤_, _<_}
 use native.Mathlib.Omega.{arith}
-use lib.Dec.{leb}
+use lib.Dec.{eqb, leb}
 use lib.ListN.{length, replicate}
 use borrow.Author.Tests.{le-leb, lt-ltb}
 use Rattle.record.specs.Records.{reading}
@@ -13,53 +14,74 @@ use Rattle.record.specs.declared.event.PartnerEvent.{PartnerEvent}
 use Rattle.record.specs.declared.event.PartnerEvent.the-variants.{Drop, Up, Loss, Timeout, Version, Ended}
 use Rattle.record.specs.declared.event.Event.the-variants.{Named}
 use Rattle.record.specs.declared.event.Reading.the-variants.{Meant}
+use Rattle.wire.specs.Refusals.{accepted, badLimits}
 use Rattle.wire.proofs.Tests.{and-both}
-use Rattle.place.specs.Places.{tries, vacant, seat, phaseOk, fitsIncoming, fits}
-use Rattle.place.specs.Table.{oneMore, again, turn}
+use Rattle.place.specs.Places.{mostTries, tries, vacant, seat, phaseOk, fitsIncoming, fits}
+use Rattle.place.specs.Table.{established, oneMore, again, turn}
 use Rattle.place.specs.declared.phase.Phase.{Phase}
 use Rattle.place.specs.declared.phase.Phase.the-variants.{Connecting, Contacting, Open, Lost, Ending}
 use Rattle.place.specs.declared.place.Direction.{Direction}
 use Rattle.place.specs.declared.place.Direction.the-variants.{Outgoing, Incoming}
-use Rattle.place.specs.declared.limits.Limits.{Limits}
 use Rattle.place.specs.declared.turn.Turn.{Turn}
 use Rattle.place.specs.declared.turn.Turn.the-variants.{Released, Becomes, Sends}
-use Rattle.unit.specs.States.{first, seek, placesOk, sound, noMarks, cold, coldStart, some}
+use Rattle.unit.specs.Lasts.{lastOk, recalled}
+use Rattle.unit.specs.States.{first, seek, limitsOk, placesOk, sound, noMarks, cold, noLimits, coldStart, some}
 use Rattle.unit.specs.Steps.{done, act, turned, closed, closingActions, step}
 use Rattle.unit.specs.OnRecords.{trace, actionRoom, onRecord}
+use Rattle.unit.specs.declared.last.Last.{Last}
+use Rattle.unit.specs.declared.last.Last.the-variants.{Unknown, Known}
+use Rattle.unit.specs.declared.start.Started.{Started}
 use Rattle.unit.specs.declared.state.State.{State}
 use Rattle.history.specs.Histories.{endOf, after, isOrder, isCall, isLoss, acceptedAs, perOrder, perCall, perLoss}
-use Rattle.history.specs.Reaching.{started, rbc5, order5, drop5, up5, lost5, timeout5, version5, call5, ended5, retries, lossesIn, endedLate, ordering, calling}
+use Rattle.history.specs.Reaching.{oneToTwo, started, rbc5, order5, drop5, up5, lost5, timeout5, version5, call5, ended5, retries, lossesIn, endedLate, ordering, calling}
 use Rattle.history.proofs.Leads.{Leads, stays, begins, goes-on, counted-as}
 
--- "X 1 to 2"
-abbrev oneToTwo : Limits
-oneToTwo = record { lowest = 1; highest = 2 }
-
--- the box that holds RBC 5 and nobody else
-abbrev box : Direction → Phase → State
-box d ph =
+-- the box that holds RBC 5 and nobody else, and the one that holds nobody, with n tries and this last known RBC
+abbrev pub box : ℕ → Last → Direction → Phase → State
+box n last d ph =
     record {
-      limits = oneToTwo;
+      limits = oneToTwo n;
       train = record { level = 0; mission = 0 };
       marks = noMarks;
       places = seat d ph rbc5 ∷ vacant ∷ vacant ∷ vacant ∷ [];
+      last = last;
     }
 
-module _ (n : ℕ) (d : Direction) where
+abbrev pub idle : ℕ → Last → State
+idle n last =
+    record {
+      limits = oneToTwo n;
+      train = record { level = 0; mission = 0 };
+      marks = noMarks;
+      places = vacant ∷ vacant ∷ vacant ∷ vacant ∷ [];
+      last = last;
+    }
+
+-- RBC 5 as the last known
+abbrev pub five : Last
+five = Known 0 0 5
+
+module _ (n : ℕ) (ok : limitsOk (oneToTwo n) ≡ true) (last : Last) (known : lastOk last ≡ true) (d : Direction) where
   -- the phase is sound in this direction
   abbrev Fit : Phase → Type 0
-  Fit ph = (phaseOk n ph ≡ true) × (fits d ph rbc5 ≡ true)
+  Fit ph = (phaseOk (oneToTwo n) ph ≡ true) × (fits d ph rbc5 ≡ true)
+
+  places-fit : (ph : Phase) → Fit ph → placesOk (oneToTwo n) (box n last d ph .places) ≡ true
+  unfolding placesOk first some
+  places-fit ph fit = rw (fit .0, fit .1) refl
 
   -- and so is the box
-  box-sound : (ph : Phase) → Fit ph → sound n (box d ph) ≡ true
-  unfolding sound placesOk first some
-  box-sound ph fit = rw (fit .0, fit .1) refl
+  box-sound : (ph : Phase) → Fit ph → sound (box n last d ph) ≡ true
+  unfolding sound
+  box-sound ph fit =
+      and-both (limitsOk (oneToTwo n)) (placesOk (oneToTwo n) (box n last d ph .places) && lastOk last) ok
+      (and-both (placesOk (oneToTwo n) (box n last d ph .places)) (lastOk last) (places-fit ph fit) known)
 
   -- a record that names RBC 5 makes the turn that the table says
   turns : (ph : Phase) (e : PartnerEvent) (bytes : List ℕ)
       → Fit ph
       → reading bytes ≡ Meant (Named rbc5 e)
-      → onRecord n (box d ph) bytes actionRoom ≡ turned (box d ph) 0 ph rbc5 (turn n oneToTwo ph e)
+      → onRecord (box n last d ph) bytes actionRoom ≡ turned (box n last d ph) 0 ph rbc5 (turn (oneToTwo n) ph e)
   unfolding onRecord step seek first some
   turns ph e bytes fit means = rw (box-sound ph fit, means) refl
 
@@ -67,49 +89,60 @@ module _ (n : ℕ) (d : Direction) where
   via : (ph : Phase) (e : PartnerEvent) (bytes : List ℕ) (t : Turn) (history : List (List ℕ)) (u : State) (a b c k : ℕ)
       → Fit ph
       → reading bytes ≡ Meant (Named rbc5 e)
-      → turn n oneToTwo ph e ≡ t
-      → Leads n (turned (box d ph) 0 ph rbc5 t .state) history u a b c k
-      → Leads n (box d ph) (bytes ∷ history) u (acceptedAs isOrder bytes (turned (box d ph) 0 ph rbc5 t) + a) (acceptedAs isCall bytes (turned (box d ph) 0 ph rbc5 t) + b) (acceptedAs isLoss bytes (turned (box d ph) 0 ph rbc5 t) + c) (length (turned (box d ph) 0 ph rbc5 t .actions) + k)
+      → turn (oneToTwo n) ph e ≡ t
+      → Leads (turned (box n last d ph) 0 ph rbc5 t .state) history u a b c k
+      → Leads (box n last d ph) (bytes ∷ history) u (acceptedAs (λ s. isOrder) (box n last d ph) bytes (turned (box n last d ph) 0 ph rbc5 t) + a) (acceptedAs (λ s. isCall) (box n last d ph) bytes (turned (box n last d ph) 0 ph rbc5 t) + b) (acceptedAs (λ s. isLoss) (box n last d ph) bytes (turned (box n last d ph) 0 ph rbc5 t) + c) (length (turned (box n last d ph) 0 ph rbc5 t .actions) + k)
   via ph e bytes t history u a b c k fit means turning rest =
-      begins n (box d ph) bytes (turned (box d ph) 0 ph rbc5 t) history u a b c k (turns ph e bytes fit means ∙ ap (turned (box d ph) 0 ph rbc5) turning) rest
+      begins (box n last d ph) bytes (turned (box n last d ph) 0 ph rbc5 t) history u a b c k (turns ph e bytes fit means ∙ ap (turned (box n last d ph) 0 ph rbc5) turning) rest
 
   -- the timeouts of a phase, from the first try to the last
-  module _ (phase : ℕ → Phase) (number : ℕ) (fit : (t : ℕ) → 1 ≤ t → t ≤ n → Fit (phase t)) (once-more : (t : ℕ) → t < n → turn n oneToTwo (phase t) Timeout ≡ Sends number (phase (t + 1))) where
+  module _ (phase : ℕ → Phase) (number : ℕ) (other : eqb number established ≡ false)
+      (fit : (t : ℕ) → 1 ≤ t → t ≤ n → Fit (phase t))
+      (once-more : (t : ℕ) → t < n → turn (oneToTwo n) (phase t) Timeout ≡ Sends number (phase (t + 1))) where
+    -- no action of theirs is a 159
+    kept : recalled last (act rbc5 number ∷ []) ≡ last
+    unfolding recalled
+    kept = ap (λ b. cond (b && true) five last) other
+
     -- so many timeouts
-    timed-out : (k t : ℕ) → 1 ≤ t → t + k ≤ n → Leads n (box d (phase t)) (replicate k timeout5) (box d (phase (t + k))) 0 0 0 k
+    timed-out : (k t : ℕ)
+        → 1 ≤ t
+        → t + k ≤ n
+        → Leads (box n last d (phase t)) (replicate k timeout5) (box n last d (phase (t + k))) 0 0 0 k
     unfolding reading
     timed-out zero t some fits =
-        subst (λ u. Leads n (box d (phase t)) [] (box d (phase u)) 0 0 0 0) (omega arith) (stays n (box d (phase t)))
+        subst (λ u. Leads (box n last d (phase t)) [] (box n last d (phase u)) 0 0 0 0) (omega arith) (stays (box n last d (phase t)))
     timed-out (suc k) t some fits =
-        subst (λ u. Leads n (box d (phase t)) (timeout5 ∷ replicate k timeout5) (box d (phase u)) 0 0 0 (suc k)) (omega arith)
-        (counted-as n _ _ _ _ _ _ _ 0 0 0 (suc k)
-        (via (phase t) Timeout timeout5 (Sends number (phase (t + 1))) (replicate k timeout5) (box d (phase ((t + 1) + k))) 0 0 0 k (fit t some (omega arith)) refl
+        subst (λ u. Leads (box n last d (phase t)) (timeout5 ∷ replicate k timeout5) (box n last d (phase u)) 0 0 0 (suc k)) (omega arith)
+        (counted-as _ _ _ _ _ _ _ 0 0 0 (suc k)
+        (via (phase t) Timeout timeout5 (Sends number (phase (t + 1))) (replicate k timeout5) (box n last d (phase ((t + 1) + k))) 0 0 0 k (fit t some (omega arith)) refl
         (once-more t (omega arith))
-        (timed-out k (t + 1) (omega arith) (omega arith)))
+        (subst (λ x. Leads (box n x d (phase (t + 1))) (replicate k timeout5) (box n last d (phase ((t + 1) + k))) 0 0 0 k) (sym kept)
+        (timed-out k (t + 1) (omega arith) (omega arith))))
         refl
         refl
         refl
         (omega arith))
 
     -- all that there can be without a release
-    all-tries : 1 ≤ n → Leads n (box d (phase 1)) (retries n) (box d (phase n)) 0 0 0 (n - 1)
+    all-tries : 1 ≤ n → Leads (box n last d (phase 1)) (retries n) (box n last d (phase n)) 0 0 0 (n - 1)
     all-tries some-try =
-        subst (λ t. Leads n (box d (phase 1)) (retries n) (box d (phase t)) 0 0 0 (n - 1)) (omega arith) (timed-out (n - 1) 1 (omega arith) (omega arith))
+        subst (λ t. Leads (box n last d (phase 1)) (retries n) (box n last d (phase t)) 0 0 0 (n - 1)) (omega arith) (timed-out (n - 1) 1 (omega arith) (omega arith))
 
     -- and then the rest
     retried :
         1 ≤ n
         → (history : List (List ℕ)) (u : State) (a b c k : ℕ)
-        → Leads n (box d (phase n)) history u a b c k
-        → Leads n (box d (phase 1)) (retries n ++ history) u (0 + a) (0 + b) (0 + c) ((n - 1) + k)
+        → Leads (box n last d (phase n)) history u a b c k
+        → Leads (box n last d (phase 1)) (retries n ++ history) u (0 + a) (0 + b) (0 + c) ((n - 1) + k)
     retried some-try history u a b c k rest =
-        goes-on n (box d (phase 1)) (box d (phase n)) u (retries n) history 0 0 0 (n - 1) a b c k (all-tries some-try) rest
+        goes-on (box n last d (phase 1)) (box n last d (phase n)) u (retries n) history 0 0 0 (n - 1) a b c k (all-tries some-try) rest
 
   within : (t : ℕ) → 1 ≤ t → t ≤ n → (leb 1 t && leb t n) ≡ true
   within t some most = and-both (leb 1 t) (leb t n) (le-leb 1 t some) (le-leb t n most)
 
   -- a session fits both directions
-  session-fit : (ph : Phase) → phaseOk n ph ≡ true → fitsIncoming ph ≡ true → Fit ph
+  session-fit : (ph : Phase) → phaseOk (oneToTwo n) ph ≡ true → fitsIncoming ph ≡ true → Fit ph
   session-fit ph ok h = (ok, by d)
     where
       by : (d : Direction) → fits d ph rbc5 ≡ true
@@ -123,31 +156,31 @@ module _ (n : ℕ) (d : Direction) where
   ending-fit t some most = session-fit (Ending t) (within t some most) refl
 
   -- one more try while there is one
-  try-again : (number : ℕ) (ph : Phase) → tries ph < n → again n number ph ≡ Sends number (oneMore ph)
+  try-again : (number : ℕ) (ph : Phase) → tries ph < n → again (oneToTwo n) number ph ≡ Sends number (oneMore ph)
   try-again number ph h = rw (lt-ltb (tries ph) n h)
 
   module _ (some-try : 1 ≤ n) where
     -- an open session dropped, its end timed out to the last try, and 39
-    closed-leads : Leads n (box d Open) (endedLate n) started 0 0 0 (n + 1)
-    unfolding reading turn coldStart cold
+    closed-leads : Leads (box n last d Open) (endedLate n) (idle n last) 0 0 0 (n + 1)
+    unfolding reading turn recalled
     closed-leads =
-        counted-as n _ _ _ _ _ _ _ 0 0 0 (n + 1)
+        counted-as _ _ _ _ _ _ _ 0 0 0 (n + 1)
         (via Open Drop drop5 (Sends 156 (Ending 1)) _ _ _ _ _ _ (session-fit Open refl refl) refl refl
-        (retried Ending 156 ending-fit (λ t. try-again 156 (Ending t)) some-try _ _ _ _ _ _
-        (via (Ending n) Ended ended5 Released [] started 0 0 0 0 (ending-fit n some-try (omega arith)) refl refl (stays n started))))
+        (retried Ending 156 refl ending-fit (λ t. try-again 156 (Ending t)) some-try _ _ _ _ _ _
+        (via (Ending n) Ended ended5 Released [] (idle n last) 0 0 0 0 (ending-fit n some-try (omega arith)) refl refl (stays (idle n last)))))
         refl
         refl
         refl
         (omega arith)
 
     -- an open session lost so many times, timed out to the last try, and up again
-    losses-lead : (c : ℕ) → Leads n (box d Open) (lossesIn n c) (box d Open) 0 0 c (n * c)
-    unfolding reading turn lossesIn
-    losses-lead zero = counted-as n _ _ _ _ _ _ _ 0 0 0 (n * 0) (stays n (box d Open)) refl refl refl (omega arith)
+    losses-lead : (c : ℕ) → Leads (box n last d Open) (lossesIn n c) (box n last d Open) 0 0 c (n * c)
+    unfolding reading turn lossesIn recalled
+    losses-lead zero = counted-as _ _ _ _ _ _ _ 0 0 0 (n * 0) (stays (box n last d Open)) refl refl refl (omega arith)
     losses-lead (suc c) =
-        counted-as n _ _ _ _ _ _ _ 0 0 (suc c) (n * suc c)
+        counted-as _ _ _ _ _ _ _ 0 0 (suc c) (n * suc c)
         (via Open Loss lost5 (Sends 21 (Lost 1)) _ _ _ _ _ _ (session-fit Open refl refl) refl refl
-        (retried Lost 21 lost-fit (λ t. try-again 21 (Lost t)) some-try _ _ _ _ _ _
+        (retried Lost 21 refl lost-fit (λ t. try-again 21 (Lost t)) some-try _ _ _ _ _ _
         (via (Lost n) Up up5 (Becomes Open) _ _ _ _ _ _ (lost-fit n some-try (omega arith)) refl refl (losses-lead c))))
         (omega arith)
         (omega arith)
@@ -155,50 +188,91 @@ module _ (n : ℕ) (d : Direction) where
         (omega arith)
 
     -- the one, then the other
-    session-leads : (c : ℕ) → Leads n (box d Open) (lossesIn n c ++ endedLate n) started 0 0 c (n * c + (n + 1))
+    session-leads : (c : ℕ) → Leads (box n last d Open) (lossesIn n c ++ endedLate n) (idle n last) 0 0 c (n * c + (n + 1))
     session-leads c =
-        counted-as n _ _ _ _ _ _ _ 0 0 c (n * c + (n + 1)) (goes-on n _ _ _ (lossesIn n c) (endedLate n) _ _ _ _ _ _ _ _ (losses-lead c) closed-leads)
+        counted-as _ _ _ _ _ _ _ 0 0 c (n * c + (n + 1)) (goes-on _ _ _ (lossesIn n c) (endedLate n) _ _ _ _ _ _ _ _ (losses-lead c) closed-leads)
         refl
         refl
         (omega arith)
         refl
 
-module _ (n : ℕ) (some-try : 1 ≤ n) where
+module _ (n : ℕ) (some-try : 1 ≤ n) (most : n ≤ mostTries) where
+  -- so many tries a cold start takes
+  limits-ok : limitsOk (oneToTwo n) ≡ true
+  limits-ok = and-both (leb 1 n) (leb n mostTries) (le-leb 1 n some-try) (le-leb n mostTries most)
+
+  -- it holds nobody, and knows none
+  pub started-idle : started n ≡ idle n Unknown
+  unfolding coldStart cold
+  started-idle =
+      ap (λ b. cond {A = Started} b (record { code = accepted; state = cold (oneToTwo n) }) (record { code = badLimits; state = cold noLimits }) .state) limits-ok
+
+  idle-sound : (last : Last) → lastOk last ≡ true → sound (idle n last) ≡ true
+  unfolding sound placesOk first some
+  idle-sound last known = and-both (limitsOk (oneToTwo n)) (lastOk last) limits-ok known
+
   -- a session that a call opens
-  pub calling-leads : (c : ℕ) → Leads n started (calling n c) started 0 1 c (perCall n + perLoss n * c)
-  unfolding reading first seek placesOk sound cold coldStart step onRecord calling some
-  calling-leads c =
-      counted-as n _ _ _ _ _ _ _ 0 1 c (perCall n + perLoss n * c)
-      (begins n started call5 (done (box Incoming Open) (act rbc5 159 ∷ [])) _ _ _ _ _ _ refl (session-leads n Incoming some-try c))
-      (omega arith)
-      (omega arith)
-      (omega arith)
-      (omega arith)
+  called-five : (last : Last)
+      → lastOk last ≡ true
+      → onRecord (idle n last) call5 actionRoom ≡ done (box n five Incoming Open) (act rbc5 159 ∷ [])
+  unfolding reading first seek step onRecord some recalled
+  called-five last known = rw (idle-sound last known) refl
 
-  -- the phases before a session are outgoing
-  connecting-fit : (t : ℕ) → 1 ≤ t → t ≤ n → Fit n Outgoing (Connecting t)
-  connecting-fit t some most = (within n Outgoing t some most, refl)
-
-  contacting-fit : (t : ℕ) → 1 ≤ t → t ≤ n → Fit n Outgoing (Contacting t)
-  contacting-fit t some most = (within n Outgoing t some most, refl)
-
-  -- a place is held through all tries but one
-  pub connecting-holds : after n (after n started (order5 ∷ [])) (retries n) ≡ box Outgoing (Connecting n)
-  unfolding reading turn first seek placesOk sound cold coldStart closed closingActions step onRecord after endOf trace some
-  connecting-holds = all-tries n Outgoing Connecting 21 connecting-fit (λ t. try-again n Outgoing 21 (Connecting t)) some-try .ends
+  pub calling-leads : (last : Last)
+      → lastOk last ≡ true
+      → (c : ℕ)
+      → Leads (idle n last) (calling n c) (idle n five) 0 1 c (perCall n + perLoss n * c)
+  unfolding calling
+  calling-leads last known c =
+      counted-as _ _ _ _ _ _ _ 0 1 c (perCall n + perLoss n * c)
+      (begins (idle n last) call5 (done (box n five Incoming Open) (act rbc5 159 ∷ [])) _ _ _ _ _ _ (called-five last known)
+      (session-leads n limits-ok five refl Incoming some-try c))
+      (omega arith)
+      (omega arith)
+      (omega arith)
+      (omega arith)
 
   -- a session that an order asks for
-  pub ordering-leads : (c : ℕ) → Leads n started (ordering n c) started 1 0 c (perOrder n + perLoss n * c)
-  unfolding reading turn first seek placesOk sound cold coldStart closed closingActions step onRecord ordering some
-  ordering-leads c =
-      counted-as n _ _ _ _ _ _ _ 1 0 c (perOrder n + perLoss n * c)
-      (begins n started order5 (done (box Outgoing (Connecting 1)) (act rbc5 21 ∷ [])) _ _ _ _ _ _ refl
-      (retried n Outgoing Connecting 21 connecting-fit (λ t. try-again n Outgoing 21 (Connecting t)) some-try _ _ _ _ _ _
-      (via n Outgoing (Connecting n) Up up5 (Sends 155 (Contacting 1)) _ _ _ _ _ _ (connecting-fit n some-try (omega arith)) refl refl
-      (retried n Outgoing Contacting 155 contacting-fit (λ t. try-again n Outgoing 155 (Contacting t)) some-try _ _ _ _ _ _
-      (via n Outgoing (Contacting n) (Version 17) version5 (Sends 159 Open) _ _ _ _ _ _ (contacting-fit n some-try (omega arith)) refl refl
-      (session-leads n Outgoing some-try c))))))
-      (omega arith)
-      (omega arith)
-      (omega arith)
-      (omega arith)
+  ordered-five : (last : Last)
+      → lastOk last ≡ true
+      → onRecord (idle n last) order5 actionRoom ≡ done (box n last Outgoing (Connecting 1)) (act rbc5 21 ∷ [])
+  unfolding reading first seek closed closingActions step onRecord some
+  ordered-five last known = rw (idle-sound last known) refl
+
+  module _ (last : Last) (known : lastOk last ≡ true) where
+    -- the phases before a session are outgoing
+    connecting-fit : (t : ℕ) → 1 ≤ t → t ≤ n → Fit n limits-ok last known Outgoing (Connecting t)
+    connecting-fit t some most = (within n limits-ok last known Outgoing t some most, refl)
+
+    contacting-fit : (t : ℕ) → 1 ≤ t → t ≤ n → Fit n limits-ok last known Outgoing (Contacting t)
+    contacting-fit t some most = (within n limits-ok last known Outgoing t some most, refl)
+
+    again-on : (number : ℕ) (ph : Phase) → tries ph < n → again (oneToTwo n) number ph ≡ Sends number (oneMore ph)
+    again-on = try-again n limits-ok last known Outgoing
+
+    pub ordering-leads : (c : ℕ) → Leads (idle n last) (ordering n c) (idle n five) 1 0 c (perOrder n + perLoss n * c)
+    unfolding reading turn ordering recalled
+    ordering-leads c =
+        counted-as _ _ _ _ _ _ _ 1 0 c (perOrder n + perLoss n * c)
+        (begins (idle n last) order5 (done (box n last Outgoing (Connecting 1)) (act rbc5 21 ∷ [])) _ _ _ _ _ _ (ordered-five last known)
+        (retried n limits-ok last known Outgoing Connecting 21 refl connecting-fit (λ t. again-on 21 (Connecting t)) some-try _ _ _ _ _ _
+        (via n limits-ok last known Outgoing (Connecting n) Up up5 (Sends 155 (Contacting 1)) _ _ _ _ _ _ (connecting-fit n some-try (omega arith)) refl refl
+        (retried n limits-ok last known Outgoing Contacting 155 refl contacting-fit (λ t. again-on 155 (Contacting t)) some-try _ _ _ _ _ _
+        (via n limits-ok last known Outgoing (Contacting n) (Version 17) version5 (Sends 159 Open) _ _ _ _ _ _ (contacting-fit n some-try (omega arith)) refl refl
+        (session-leads n limits-ok five refl Outgoing some-try c))))))
+        (omega arith)
+        (omega arith)
+        (omega arith)
+        (omega arith)
+
+  -- an order is taken in
+  pub connecting-starts : after (started n) (order5 ∷ []) ≡ box n Unknown Outgoing (Connecting 1)
+  unfolding after endOf trace
+  connecting-starts = ap (λ s. onRecord s order5 actionRoom .state) started-idle ∙ ap (λ o. o .state) (ordered-five Unknown refl)
+
+  -- and its place is held through all tries but one
+  pub connecting-holds : after (after (started n) (order5 ∷ [])) (retries n) ≡ box n Unknown Outgoing (Connecting n)
+  unfolding turn
+  connecting-holds =
+      ap (λ s. after s (retries n)) connecting-starts
+      ∙ all-tries n limits-ok Unknown refl Outgoing Connecting 21 refl (connecting-fit Unknown refl) (λ t. again-on Unknown refl 21 (Connecting t)) some-try .ends

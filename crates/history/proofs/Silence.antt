@@ -20,6 +20,7 @@ use Rattle.record.specs.declared.event.Reading.the-variants.{Meant, Refused}
 use Rattle.wire.proofs.Tests.{and-left, and-right, true-false}
 use Rattle.unit.specs.Steps.{Outcome}
 use Rattle.unit.specs.OnRecords.{trace, actionRoom, onRecord}
+use Rattle.unit.specs.Lasts.{meant}
 use Rattle.unit.specs.declared.state.State.{State}
 use Rattle.unit.specs.Kept.{count}
 use Rattle.history.specs.Histories.{sumOver, after, summed, eventNames, isTimeout, eventTimeout, ofReading, names, timeoutFor, silent}
@@ -30,8 +31,8 @@ use Rattle.unit.proofs.StepAccounts.{total, brought}
 use Rattle.history.proofs.Accounts.{ofMeant, received, record-account, history-account}
 
 -- the record names the partner by a timeout, or not at all
-abbrev pub quiet : Partner → List ℕ → Bool
-quiet p bytes = not (names p bytes) || timeoutFor p bytes
+abbrev pub quiet : Partner → State → List ℕ → Bool
+quiet p s bytes = not (names p s bytes) || timeoutFor p bytes
 
 module _ (σ : Scale) (p : Partner) (free : brings σ Timeout ≡ 0) where
   -- an event that does not name the partner brings it nothing
@@ -53,53 +54,55 @@ module _ (σ : Scale) (p : Partner) (free : brings σ Timeout ≡ 0) where
   timed-out false e h = refl
 
   -- so no event and no record that is quiet brings anything
-  event-brings : (e : Event) → (not (eventNames p e) || eventTimeout p e) ≡ true → brought σ (samePartner p) e ≡ 0
-  event-brings (Level level manual) h = refl
-  event-brings (Mission mission) h = refl
-  event-brings Mode h = refl
-  event-brings (Hole entered) h = refl
-  event-brings (Order q accepting cause) h = unnamed (samePartner p q) (σ .order) h
-  event-brings EndAll h = refl
-  event-brings (Call q) h = unnamed (samePartner p q) (σ .call) h
-  event-brings (Named q e) h = timed-out (samePartner p q) e h
+  event-brings : (s : State) (e : Event)
+      → (not (eventNames p (s .last) e) || eventTimeout p e) ≡ true
+      → brought σ (samePartner p) s e ≡ 0
+  event-brings s (Level level manual) h = refl
+  event-brings s (Mission mission) h = refl
+  event-brings s Mode h = refl
+  event-brings s (Hole entered) h = refl
+  event-brings s (Order q accepting cause) h = unnamed (samePartner p (meant (s .last) q)) (σ .order) h
+  event-brings s EndAll h = refl
+  event-brings s (Call q) h = unnamed (samePartner p q) (σ .call) h
+  event-brings s (Named q e) h = timed-out (samePartner p q) e h
 
-  record-brings : (bytes : List ℕ) → quiet p bytes ≡ true → ofMeant (brought σ (samePartner p)) (reading bytes) ≡ 0
-  record-brings bytes = by (reading bytes)
+  record-brings : (s : State) (bytes : List ℕ) → quiet p s bytes ≡ true → ofMeant (brought σ (samePartner p) s) (reading bytes) ≡ 0
+  record-brings s bytes = by (reading bytes)
     where
       by : (r : Reading)
-          → (not (ofReading (eventNames p) r) || ofReading (eventTimeout p) r) ≡ true
-          → ofMeant (brought σ (samePartner p)) r ≡ 0
-      by (Meant e) h = event-brings e h
+          → (not (ofReading (eventNames p (s .last)) r) || ofReading (eventTimeout p) r) ≡ true
+          → ofMeant (brought σ (samePartner p) s) r ≡ 0
+      by (Meant e) h = event-brings s e h
       by (Refused r) h = refl
 
-  pub received-none : (bytes : List ℕ) → quiet p bytes ≡ true → (o : Outcome) → received σ (samePartner p) bytes o ≡ 0
-  received-none bytes h o = rw (record-brings bytes h) (nothing (eqb (o .code) accepted))
+  pub received-none : (s : State) (bytes : List ℕ) → quiet p s bytes ≡ true → (o : Outcome) → received σ (samePartner p) s bytes o ≡ 0
+  received-none s bytes h o = rw (record-brings s bytes h) (nothing (eqb (o .code) accepted))
 
   -- nor a history of them
-  pub silent-none : (n : ℕ) (s : State) (history : List (List ℕ))
-      → silent p history ≡ true
-      → summed (received σ (samePartner p)) n s history ≡ 0
+  pub silent-none : (s : State) (history : List (List ℕ))
+      → silent p s history ≡ true
+      → summed (received σ (samePartner p)) s history ≡ 0
   unfolding silent summed sumOver trace
-  silent-none n s [] h = refl
-  silent-none n s (bytes ∷ history) h =
-      let o = onRecord n s bytes actionRoom in
-      let first = received-none bytes (and-left (quiet p bytes) (silent p history) h) o in
-      let rest = silent-none n (o .state) history (and-right (quiet p bytes) (silent p history) h) in
+  silent-none s [] h = refl
+  silent-none s (bytes ∷ history) h =
+      let o = onRecord s bytes actionRoom in
+      let first = received-none s bytes (and-left (quiet p s bytes) (silent p (o .state) history) h) o in
+      let rest = silent-none (o .state) history (and-right (quiet p s bytes) (silent p (o .state) history) h) in
       omega arith
 
-  module _ (m : Sense) (n : ℕ) (balanced : Balanced m n σ) (s : State) where
+  module _ (m : Sense) (s : State) (balanced : Balanced m (s .limits) σ) where
     -- the step on such a record
     pub silent-step : (bytes : List ℕ)
-        → quiet p bytes ≡ true
-        → Balance m (count (counted σ (samePartner p)) (onRecord n s bytes actionRoom .actions) + total σ (samePartner p) (onRecord n s bytes actionRoom .state .places)) (total σ (samePartner p) (s .places))
+        → quiet p s bytes ≡ true
+        → Balance m (count (counted σ (samePartner p)) (onRecord s bytes actionRoom .actions) + total σ (samePartner p) (onRecord s bytes actionRoom .state .places)) (total σ (samePartner p) (s .places))
     silent-step bytes h =
-        let none = received-none bytes h (onRecord n s bytes actionRoom) in
-        moved m _ _ _ _ refl (omega arith) (record-account m n σ balanced (samePartner p) s bytes)
+        let none = received-none s bytes h (onRecord s bytes actionRoom) in
+        moved m _ _ _ _ refl (omega arith) (record-account m (s .limits) σ balanced (samePartner p) s refl bytes)
 
     -- and a history of them
     pub silent-account : (history : List (List ℕ))
-        → silent p history ≡ true
-        → Balance m (summed (λ bytes o. count (counted σ (samePartner p)) (o .actions)) n s history + total σ (samePartner p) (after n s history .places)) (total σ (samePartner p) (s .places))
+        → silent p s history ≡ true
+        → Balance m (summed (λ s bytes o. count (counted σ (samePartner p)) (o .actions)) s history + total σ (samePartner p) (after s history .places)) (total σ (samePartner p) (s .places))
     silent-account history h =
-        let none = silent-none n s history h in
-        moved m _ _ _ _ refl (omega arith) (history-account m n σ balanced (samePartner p) s history)
+        let none = silent-none s history h in
+        moved m _ _ _ _ refl (omega arith) (history-account m (s .limits) σ balanced (samePartner p) s refl history)

@@ -1,13 +1,12 @@
 -- Demand 3: the partners taken in are those released and those that still hold a place.
--- Proves: taken-in, demand-taken-in.
+-- Proves: demand-taken-in.
 use mathlib.Core.Path.{_≡_, refl, ap₂}
 use mathlib.Core.Bool.{true, not}
 use mathlib.Core.List.{List, [], _∷_}
-use Prim.Native.Nat.{ℕ, _+_, _≤_}
+use Prim.Native.Nat.{ℕ, _+_}
 use native.Mathlib.Omega.{arith}
 use Rattle.record.specs.Records.{reading}
 use Rattle.wire.specs.Refusals.{accepted}
-use Rattle.place.specs.Places.{tryLimit}
 use Rattle.place.proofs.Holdings.{isFreeHolding}
 use Rattle.place.specs.declared.place.Holding.{Holding}
 use Rattle.place.specs.declared.place.Holding.the-variants.{Free, Held}
@@ -38,27 +37,17 @@ held-count (p ∷ ps) = ap₂ _+_ (by (p .holding)) (held-count ps)
 counts-release : (a : Action) → counted seats (λ p. true) a ≡ isRelease a
 counts-release a = refl
 
--- from a cold start, n being the limit of tries
-pub taken-in : (n : ℕ)
-    → 1 ≤ n
-    → (l : Limits)
-    → coldStart l .code ≡ accepted
-    → (history : List (List ℕ))
-    → orders n (coldStart l .state) history + calls n (coldStart l .state) history
-    ≡ releases n (coldStart l .state) history + placesHeld (after n (coldStart l .state) history .places)
-taken-in n some-try l started history =
-    let s = coldStart l .state in
-    let account =
-    rated-account (λ ph. 1) (seats .counts) 1 1 0 (λ p. true) (λ bytes. true) (λ bytes. whose-any (reading bytes)) n exactly (seats-balanced n) isRelease counts-release s history in
-    let none = cold-light seats (λ p. true) l in
-    let held = held-count (after n s history .places) in
-    omega arith
-
--- with the three tries of document 01
+-- from a cold start, whatever its limits
 -- promise
 pub demand-taken-in : (l : Limits)
     → coldStart l .code ≡ accepted
     → (history : List (List ℕ))
-    → orders tryLimit (coldStart l .state) history + calls tryLimit (coldStart l .state) history
-    ≡ releases tryLimit (coldStart l .state) history + placesHeld (after tryLimit (coldStart l .state) history .places)
-demand-taken-in = taken-in tryLimit (omega arith)
+    → orders (coldStart l .state) history + calls (coldStart l .state) history
+    ≡ releases (coldStart l .state) history + placesHeld (after (coldStart l .state) history .places)
+demand-taken-in l started history =
+    let s = coldStart l .state in
+    let account =
+    rated-account (λ ph. 1) (seats .counts) 1 1 0 (λ p. true) (λ s bytes. true) (λ s bytes. whose-any (s .last) (reading bytes)) exactly (s .limits) (seats-balanced (s .limits)) isRelease counts-release s refl history in
+    let none = cold-light seats (λ p. true) l in
+    let held = held-count (after s history .places) in
+    omega arith

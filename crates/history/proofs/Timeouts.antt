@@ -40,7 +40,14 @@ use Rattle.history.specs.Histories.{isTimeout, eventTimeout, ofReading, 
 use Rattle.unit.proofs.Scales.{weightIn, weightOf, counted}
 use Rattle.history.proofs.Left.{left, lefts, leftTo, none-left}
 
-module _ (n : ℕ) (p : Partner) where
+-- something is left to a partner of a state, and no more than the limit
+module _ (p : Partner) (s : State)
+    (some : 1 ≤ leftTo (s .limits .tries) p (s .places))
+    (few : leftTo (s .limits .tries) p (s .places) ≤ s .limits .tries) where
+  -- the limit of tries
+  abbrev n : ℕ
+  n = s .limits .tries
+
   -- the actions for this partner
   own : List Action → ℕ
   own acts = count (counted (lefts n) (samePartner p)) acts
@@ -50,74 +57,72 @@ module _ (n : ℕ) (p : Partner) where
   unfolding own count
   own-action number = rw (same-refl p) (omega arith)
 
-  -- something is left to it, and no more than the limit
-  module _ (s : State) (some : 1 ≤ leftTo n p (s .places)) (few : leftTo n p (s .places) ≤ n) where
-    -- its place is not Open, and every other phase has an action for a timeout
-    place-acts : (i : ℕ) (ph : Phase) (k : Holding)
-        → holdsIn p k ≡ true
-        → phaseHeld k ≡ ph
-        → weightIn (lefts n) (samePartner p) k ≤ n
-        → 1 ≤ own (turned s i ph p (turn n (s .limits) ph Timeout) .actions)
-    unfolding turn
-    place-acts i ph Free h is w = true-false false h refl
-    place-acts i ph (Held d held q) h is w = by ph (rw (← is) (subst (λ b. cond b (left n held) 0 ≤ n) h w))
-      where
-        retried : (number : ℕ) (ph : Phase) → 1 ≤ own (turned s i ph p (again n number ph) .actions)
-        retried number ph =
-            cond-holds (λ t. 1 ≤ own (turned s i ph p t .actions)) (ltb (tries ph) n) (Sends number (oneMore ph)) Released
-            (own-action number)
-            (own-action release)
+  -- its place is not Open, and every other phase has an action for a timeout
+  place-acts : (i : ℕ) (ph : Phase) (k : Holding)
+      → holdsIn p k ≡ true
+      → phaseHeld k ≡ ph
+      → weightIn (lefts n) (samePartner p) k ≤ n
+      → 1 ≤ own (turned s i ph p (turn (s .limits) ph Timeout) .actions)
+  unfolding turn
+  place-acts i ph Free h is w = true-false false h refl
+  place-acts i ph (Held d held q) h is w = by ph (rw (← is) (subst (λ b. cond b (left n held) 0 ≤ n) h w))
+    where
+      retried : (number : ℕ) (ph : Phase) → 1 ≤ own (turned s i ph p (again (s .limits) number ph) .actions)
+      retried number ph =
+          cond-holds (λ t. 1 ≤ own (turned s i ph p t .actions)) (ltb (tries ph) n) (Sends number (oneMore ph)) Released
+          (own-action number)
+          (own-action release)
 
-        by : (ph : Phase) → left n ph ≤ n → 1 ≤ own (turned s i ph p (turn n (s .limits) ph Timeout) .actions)
-        by (Connecting t) w = retried 21 (Connecting t)
-        by (Contacting t) w = retried 155 (Contacting t)
-        by Open w = absurd (omega arith)
-        by (Lost t) w = retried 21 (Lost t)
-        by (Ending t) w = retried 156 (Ending t)
+      by : (ph : Phase) → left n ph ≤ n → 1 ≤ own (turned s i ph p (turn (s .limits) ph Timeout) .actions)
+      by (Connecting t) w = retried 21 (Connecting t)
+      by (Contacting t) w = retried 155 (Contacting t)
+      by Open w = absurd (omega arith)
+      by (Lost t) w = retried 21 (Lost t)
+      by (Ending t) w = retried 156 (Ending t)
 
-    -- it has a place
-    named-acts : (found : Found) → FoundOk p (s .places) found → 1 ≤ own (namedAt n s p Timeout found .actions)
-    named-acts (At i ph) at =
-        let place = getD (s .places) i vacant in
-        let less = weigh-at (weightOf (lefts n) (samePartner p)) (s .places) i (at .0) in
-        place-acts i ph (place .holding) (at .1) (at .2) (omega arith)
-    named-acts (Vacant i) at =
-        let none = none-left n p (s .places) (at .2) in
-        absurd (omega arith)
-    named-acts Full at =
-        let none = none-left n p (s .places) (at .1) in
-        absurd (omega arith)
+  -- it has a place
+  named-acts : (found : Found) → FoundOk p (s .places) found → 1 ≤ own (namedAt s p Timeout found .actions)
+  named-acts (At i ph) at =
+      let place = getD (s .places) i vacant in
+      let less = weigh-at (weightOf (lefts n) (samePartner p)) (s .places) i (at .0) in
+      place-acts i ph (place .holding) (at .1) (at .2) (omega arith)
+  named-acts (Vacant i) at =
+      let none = none-left n p (s .places) (at .2) in
+      absurd (omega arith)
+  named-acts Full at =
+      let none = none-left n p (s .places) (at .1) in
+      absurd (omega arith)
 
-    -- the event is a timeout that names it
-    event-acts : (e : Event) → eventTimeout p e ≡ true → 1 ≤ own (step n s e .actions)
-    unfolding step
-    event-acts (Level level manual) h = true-false false h refl
-    event-acts (Mission mission) h = true-false false h refl
-    event-acts Mode h = true-false false h refl
-    event-acts (Hole entered) h = true-false false h refl
-    event-acts (Order q accepting cause) h = true-false false h refl
-    event-acts EndAll h = true-false false h refl
-    event-acts (Call q) h = true-false false h refl
-    event-acts (Named q e) h =
-        by e (and-right (samePartner p q) (isTimeout e) h) (same-eq p q (and-left (samePartner p q) (isTimeout e) h))
-      where
-        by : (e : PartnerEvent) → isTimeout e ≡ true → p ≡ q → 1 ≤ own (namedAt n s q e (seek q (s .places)) .actions)
-        by Drop h same = true-false false h refl
-        by Up h same = true-false false h refl
-        by Loss h same = true-false false h refl
-        by Timeout h same = rw (← same) (named-acts (seek p (s .places)) (seek-ok p (s .places)))
-        by (Version v) h same = true-false false h refl
-        by Ended h same = true-false false h refl
+  -- the event is a timeout that names it
+  event-acts : (e : Event) → eventTimeout p e ≡ true → 1 ≤ own (step s e .actions)
+  unfolding step
+  event-acts (Level level manual) h = true-false false h refl
+  event-acts (Mission mission) h = true-false false h refl
+  event-acts Mode h = true-false false h refl
+  event-acts (Hole entered) h = true-false false h refl
+  event-acts (Order q accepting cause) h = true-false false h refl
+  event-acts EndAll h = true-false false h refl
+  event-acts (Call q) h = true-false false h refl
+  event-acts (Named q e) h =
+      by e (and-right (samePartner p q) (isTimeout e) h) (same-eq p q (and-left (samePartner p q) (isTimeout e) h))
+    where
+      by : (e : PartnerEvent) → isTimeout e ≡ true → p ≡ q → 1 ≤ own (namedAt s q e (seek q (s .places)) .actions)
+      by Drop h same = true-false false h refl
+      by Up h same = true-false false h refl
+      by Loss h same = true-false false h refl
+      by Timeout h same = rw (← same) (named-acts (seek p (s .places)) (seek-ok p (s .places)))
+      by (Version v) h same = true-false false h refl
+      by Ended h same = true-false false h refl
 
-    -- the record reads as such an event
-    pub timeout-acts :
-        sound n s ≡ true
-        → (bytes : List ℕ)
-        → timeoutFor p bytes ≡ true
-        → 1 ≤ count (counted (lefts n) (samePartner p)) (onRecord n s bytes actionRoom .actions)
-    unfolding onRecord own
-    timeout-acts ok bytes h = rw ok (by (reading bytes) h)
-      where
-        by : (r : Reading) → ofReading (eventTimeout p) r ≡ true → 1 ≤ own (onReading n s r .actions)
-        by (Meant e) h = event-acts e h
-        by (Refused r) h = true-false false h refl
+  -- the record reads as such an event
+  pub timeout-acts :
+      sound s ≡ true
+      → (bytes : List ℕ)
+      → timeoutFor p bytes ≡ true
+      → 1 ≤ count (counted (lefts n) (samePartner p)) (onRecord s bytes actionRoom .actions)
+  unfolding onRecord own
+  timeout-acts ok bytes h = rw ok (by (reading bytes) h)
+    where
+      by : (r : Reading) → ofReading (eventTimeout p) r ≡ true → 1 ≤ own (onReading s r .actions)
+      by (Meant e) h = event-acts e h
+      by (Refused r) h = true-false false h refl

@@ -1,7 +1,8 @@
 -- Demand 3, the waiting partner: one that waits and is from then on named by nothing but timeouts is released, once, after the limit
 -- of tries at the latest.
+-- Defines: leftIn.
 -- Proves: left-after, waiting, released-once, demand-waiting, demand-released-once.
-use mathlib.Core.Path.{_≡_, refl, _∙_}
+use mathlib.Core.Path.{_≡_, refl, ap, _∙_}
 use mathlib.Core.Bool.{Bool, true, false, _&&_, _||_}
 use mathlib.Core.List.{List, [], _∷_}
 use Prim.Native.Nat.{ℕ, zero, suc, _+_, _-_, _≤_}
@@ -9,14 +10,15 @@ use native.Mathlib.Omega.{arith}
 use Rattle.record.specs.Partners.{samePartner}
 use Rattle.record.specs.declared.partner.Partner.{Partner}
 use Rattle.wire.proofs.Tests.{and-left, and-right, cond-case}
-use Rattle.place.specs.Places.{tryLimit, holds}
+use Rattle.place.specs.Places.{fleetTries, holds}
 use Rattle.place.specs.declared.place.Place.{Place}
 use Rattle.unit.specs.States.{sound, some}
 use Rattle.unit.specs.OnRecords.{trace, actionRoom, onRecord}
 use Rattle.unit.specs.declared.state.State.{State}
 use Rattle.unit.specs.declared.answer.Action.{Action}
 use Rattle.unit.specs.Kept.{here, once, weigh, count}
-use Rattle.unit.proofs.Facts.{sound-facts}
+use Rattle.unit.proofs.Effects.{onRecord-limits}
+use Rattle.unit.proofs.Facts.{limits-tries, sound-facts}
 use Rattle.unit.proofs.Sound.{onRecord-sound}
 use Rattle.history.specs.Histories.{endOf, after, isRelease, timeoutFor, silent, timeouts, holdsPlace, waits, releaseOf, releasesOf, timeoutsToRelease}
 use Rattle.unit.proofs.Counts.{count-same}
@@ -36,37 +38,50 @@ one-less (suc before) acts after some h =
     let acted = some (omega arith) in
     omega arith
 
-module _ (n : ℕ) (some-try : 1 ≤ n) (p : Partner) where
+-- a sound state has a first try
+some-try : (s : State) → sound s ≡ true → 1 ≤ s .limits .tries
+some-try s ok = limits-tries (s .limits) (sound-facts s ok .limits) .0
+
+-- what is left to a partner of a state, by its limits
+abbrev pub leftIn : Partner → State → ℕ
+leftIn p s = leftTo (s .limits .tries) p (s .places)
+
+module _ (p : Partner) where
   -- a record takes away what its timeout does, or more
   left-step : (s : State)
-      → sound n s ≡ true
-      → leftTo n p (s .places) ≤ n
+      → sound s ≡ true
+      → leftIn p s ≤ s .limits .tries
       → (bytes : List ℕ)
-      → quiet p bytes ≡ true
-      → leftTo n p (onRecord n s bytes actionRoom .state .places) ≤ leftTo n p (s .places) - once (timeoutFor p bytes)
+      → quiet p s bytes ≡ true
+      → leftIn p (onRecord s bytes actionRoom .state) ≤ leftIn p s - once (timeoutFor p bytes)
   left-step s ok few bytes h =
-      let o = onRecord n s bytes actionRoom in
+      let n = s .limits .tries in
+      let o = onRecord s bytes actionRoom in
       let before = leftTo n p (s .places) in
       let after = leftTo n p (o .state .places) in
-      let account = silent-step (lefts n) p refl atMost n (lefts-balanced n some-try) s bytes h in
+      let account = silent-step (lefts n) p refl atMost s (lefts-balanced (s .limits) (some-try s ok)) bytes h in
+      let same = ap (λ l. leftTo (l .tries) p (o .state .places)) (onRecord-limits s bytes actionRoom) in
+      let less =
       cond-case (λ w. after ≤ before - w) (timeoutFor p bytes) 1 0
-      (λ timed. one-less before _ after (λ some. timeout-acts n p s some few ok bytes timed) account)
-      (λ other. omega arith)
+      (λ timed. one-less before _ after (λ some. timeout-acts p s some few ok bytes timed) account)
+      (λ other. omega arith) in
+      omega arith
 
   -- each timeout takes one away, until nothing is left
   pub left-after : (s : State)
-      → sound n s ≡ true
-      → leftTo n p (s .places) ≤ n
+      → sound s ≡ true
+      → leftIn p s ≤ s .limits .tries
       → (history : List (List ℕ))
-      → silent p history ≡ true
-      → leftTo n p (after n s history .places) ≤ leftTo n p (s .places) - timeouts p history
+      → silent p s history ≡ true
+      → leftIn p (after s history) ≤ leftIn p s - timeouts p history
   unfolding after silent timeouts endOf trace
   left-after s ok few [] h = omega arith
   left-after s ok few (bytes ∷ history) h =
-      let o = onRecord n s bytes actionRoom in
-      let first = left-step s ok few bytes (and-left (quiet p bytes) (silent p history) h) in
+      let o = onRecord s bytes actionRoom in
+      let first = left-step s ok few bytes (and-left (quiet p s bytes) (silent p (o .state) history) h) in
+      let same = ap (λ l. l .tries) (onRecord-limits s bytes actionRoom) in
       let rest =
-      left-after (o .state) (onRecord-sound n some-try s bytes actionRoom ok) (omega arith) history (and-right (quiet p bytes) (silent p history) h) in
+      left-after (o .state) (onRecord-sound s bytes actionRoom ok) (omega arith) history (and-right (quiet p s bytes) (silent p (o .state) history) h) in
       omega arith
 
 -- a partner that holds none of the places has none
@@ -94,60 +109,62 @@ release-of p a = by (samePartner p (a .partner)) (isRelease a)
     by false false = refl
 
 module _
-    (n : ℕ)
-    (some-try : 1 ≤ n)
     (s : State)
-    (ok : sound n s ≡ true)
+    (ok : sound s ≡ true)
     (p : Partner)
     (waiting-now : waits p (s .places) ≡ true)
     (history : List (List ℕ))
-    (quiet-on : silent p history ≡ true)
-    (enough : timeoutsToRelease n ≤ timeouts p history)
+    (quiet-on : silent p s history ≡ true)
+    (enough : timeoutsToRelease (s .limits .tries) ≤ timeouts p history)
   where
     -- after so many timeouts nothing is left, so no place is held
-    none-held : weigh (here (holds p)) (after n s history .places) ≡ 0
+    none-held : weigh (here (holds p)) (after s history .places) ≡ 0
     none-held =
-        let few = waiting-left n p some-try (s .places) (sound-facts n s ok .places) waiting-now .1 in
-        let most = left-after n some-try p s ok few history quiet-on in
-        let held = held-left n p (after n s history .places) in
+        let few = waiting-left (s .limits) (some-try s ok) p (s .places) (sound-facts s ok .places) waiting-now .1 in
+        let most = left-after p s ok few history quiet-on in
+        let held = held-left (after s history .limits .tries) p (after s history .places) in
         omega arith
 
-    -- it holds no place
-    pub waiting : holdsPlace p (after n s history .places) ≡ false
-    waiting = absent p (after n s history .places) none-held
+    -- it holds no place after its n-th timeout
+    -- promise
+    pub waiting : holdsPlace p (after s history .places) ≡ false
+    waiting = absent p (after s history .places) none-held
 
     -- it was released, by one action 22 to that very partner
-    pub released-once : releasesOf p n s history ≡ 1
+    -- promise
+    pub released-once : releasesOf p s history ≡ 1
     released-once =
-        let held = waiting-left n p some-try (s .places) (sound-facts n s ok .places) waiting-now .0 in
-        let account = silent-account seats p refl exactly n (seats-balanced n) s history quiet-on in
+        let held = waiting-left (s .limits) (some-try s ok) p (s .places) (sound-facts s ok .places) waiting-now .0 in
+        let account = silent-account seats p refl exactly s (seats-balanced (s .limits)) history quiet-on in
         let before = seats-held p (s .places) in
-        let then = seats-held p (after n s history .places) in
+        let then = seats-held p (after s history .places) in
         let none = none-held in
         let own =
-        summed-same (λ bytes o. count (counted seats (samePartner p)) (o .actions)) (λ bytes o. count (releaseOf p) (o .actions)) n
-        (λ s bytes. count-same (counted seats (samePartner p)) (releaseOf p) (release-of p) (onRecord n s bytes actionRoom .actions)) s history in
+        summed-same (λ s bytes o. count (counted seats (samePartner p)) (o .actions)) (λ s bytes o. count (releaseOf p) (o .actions))
+        (λ s bytes. count-same (counted seats (samePartner p)) (releaseOf p) (release-of p) (onRecord s bytes actionRoom .actions)) s history in
         omega arith
 
 -- with the three tries of document 01
 -- promise
 pub demand-waiting : (s : State)
-    → sound tryLimit s ≡ true
+    → s .limits .tries ≡ fleetTries
+    → sound s ≡ true
     → (p : Partner)
     → waits p (s .places) ≡ true
     → (history : List (List ℕ))
-    → silent p history ≡ true
+    → silent p s history ≡ true
     → 3 ≤ timeouts p history
-    → holdsPlace p (after tryLimit s history .places) ≡ false
-demand-waiting = waiting tryLimit (omega arith)
+    → holdsPlace p (after s history .places) ≡ false
+demand-waiting s three ok p now history quiet-on enough = waiting s ok p now history quiet-on (omega arith)
 
 -- promise
 pub demand-released-once : (s : State)
-    → sound tryLimit s ≡ true
+    → s .limits .tries ≡ fleetTries
+    → sound s ≡ true
     → (p : Partner)
     → waits p (s .places) ≡ true
     → (history : List (List ℕ))
-    → silent p history ≡ true
+    → silent p s history ≡ true
     → 3 ≤ timeouts p history
-    → releasesOf p tryLimit s history ≡ 1
-demand-released-once = released-once tryLimit (omega arith)
+    → releasesOf p s history ≡ 1
+demand-released-once s three ok p now history quiet-on enough = released-once s ok p now history quiet-on (omega arith)

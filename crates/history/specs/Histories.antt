@@ -3,10 +3,10 @@
 -- Defines: endOf, after, sumOver, summed, one, isOrder, isCall, isLoss, acceptedAs, orders, calls, losses, actions, isRelease, releases,
 -- placesHeld, eventNames, isTimeout, eventTimeout, ofReading, names, timeoutFor, silent, timeouts, holdsPlace, waitingPhase,
 -- waitsAt, waits, releaseOf, releasesOf, heldTries, perOrder, perCall, perLoss, timeoutsToRelease, actionsOf, ordersOf,
--- callsOf, lossesOf.
+-- callsOf, lossesOf, sentBy, sent.
 use Prim.Native.Nat.{ℕ, _+_, _*_}
 use mathlib.Core.Bool.{Bool, true, false, cond, _&&_, _||_, not}
-use mathlib.Core.List.{List, [], _∷_}
+use mathlib.Core.List.{List, [], _∷_, _++_}
 use lib.Dec.{eqb}
 use lib.ListN.{length}
 use Rattle.record.specs.Partners.{samePartner}
@@ -27,7 +27,9 @@ use Rattle.place.specs.declared.phase.Phase.the-variants.{Connecting, Contactin
 use Rattle.place.specs.declared.place.Place.{Place}
 use Rattle.unit.specs.Steps.{Outcome}
 use Rattle.unit.specs.Kept.{count}
-use Rattle.unit.specs.OnRecords.{trace}
+use Rattle.unit.specs.OnRecords.{actionRoom, onRecord, trace}
+use Rattle.unit.specs.Lasts.{meant}
+use Rattle.unit.specs.declared.last.Last.{Last}
 use Rattle.unit.specs.declared.state.State.{State}
 use Rattle.unit.specs.declared.answer.Action.{Action}
 use Rattle.unit.specs.States.{some}
@@ -38,18 +40,18 @@ endOf s [] = s
 endOf s (o ∷ os) = endOf (o .state) os
 
 -- the state after a history
-unfoldable pub after : ℕ → State → List (List ℕ) → State
-after n s history = endOf s (trace n s history)
+unfoldable pub after : State → List (List ℕ) → State
+after s history = endOf s (trace s history)
 
--- the sum over records and their outcomes of what each counts for
-unfoldable pub sumOver : (List ℕ → Outcome → ℕ) → List (List ℕ) → List Outcome → ℕ
-sumOver f [] os = 0
-sumOver f (bytes ∷ history) [] = 0
-sumOver f (bytes ∷ history) (o ∷ os) = f bytes o + sumOver f history os
+-- the sum of what each record counts for, by the state that it meets and its outcome
+unfoldable pub sumOver : (State → List ℕ → Outcome → ℕ) → State → List (List ℕ) → List Outcome → ℕ
+sumOver f s [] os = 0
+sumOver f s (bytes ∷ history) [] = 0
+sumOver f s (bytes ∷ history) (o ∷ os) = f s bytes o + sumOver f (o .state) history os
 
 -- the sum over a history
-unfoldable pub summed : (List ℕ → Outcome → ℕ) → ℕ → State → List (List ℕ) → ℕ
-summed f n s history = sumOver f history (trace n s history)
+unfoldable pub summed : (State → List ℕ → Outcome → ℕ) → State → List (List ℕ) → ℕ
+summed f s history = sumOver f s history (trace s history)
 
 -- 1 where a test passes
 abbrev pub one : Bool → ℕ
@@ -66,45 +68,46 @@ abbrev pub isLoss : List ℕ → Bool
 isLoss bytes = eqb (byte bytes 0) kindLoss
 
 -- accepted means code 0
-abbrev pub acceptedAs : (List ℕ → Bool) → List ℕ → Outcome → ℕ
-acceptedAs test bytes o = one (test bytes && eqb (o .code) accepted)
+abbrev pub acceptedAs : (State → List ℕ → Bool) → State → List ℕ → Outcome → ℕ
+acceptedAs test s bytes o = one (test s bytes && eqb (o .code) accepted)
 
 -- the accepted orders, calls 38 and losses of a history
-abbrev pub orders : ℕ → State → List (List ℕ) → ℕ
-orders = summed (acceptedAs isOrder)
+abbrev pub orders : State → List (List ℕ) → ℕ
+orders = summed (acceptedAs (λ s. isOrder))
 
-abbrev pub calls : ℕ → State → List (List ℕ) → ℕ
-calls = summed (acceptedAs isCall)
+abbrev pub calls : State → List (List ℕ) → ℕ
+calls = summed (acceptedAs (λ s. isCall))
 
-abbrev pub losses : ℕ → State → List (List ℕ) → ℕ
-losses = summed (acceptedAs isLoss)
+abbrev pub losses : State → List (List ℕ) → ℕ
+losses = summed (acceptedAs (λ s. isLoss))
 
 -- the actions of a history
-abbrev pub actions : ℕ → State → List (List ℕ) → ℕ
-actions = summed (λ bytes o. length (o .actions))
+abbrev pub actions : State → List (List ℕ) → ℕ
+actions = summed (λ s bytes o. length (o .actions))
 
 -- "releases the actions 22"
 abbrev pub isRelease : Action → Bool
 isRelease a = eqb (a .number) release
 
-abbrev pub releases : ℕ → State → List (List ℕ) → ℕ
-releases = summed (λ bytes o. count isRelease (o .actions))
+abbrev pub releases : State → List (List ℕ) → ℕ
+releases = summed (λ s bytes o. count isRelease (o .actions))
 
 -- the places that hold a partner
 unfoldable pub placesHeld : List Place → ℕ
 placesHeld [] = 0
 placesHeld (p ∷ ps) = one (not (isFree p)) + placesHeld ps
 
--- a record names a partner when it reads as an event that carries that type and number
-abbrev pub eventNames : Partner → Event → Bool
-eventNames p (Level level manual) = false
-eventNames p (Mission mission) = false
-eventNames p Mode = false
-eventNames p (Hole entered) = false
-eventNames p (Order q accepting cause) = samePartner p q
-eventNames p EndAll = false
-eventNames p (Call q) = samePartner p q
-eventNames p (Named q e) = samePartner p q
+-- a record names a partner when it reads as an event that carries that type and number; Q-2: an order with 16,383 names whoever is
+-- meant by it at that point
+abbrev pub eventNames : Partner → Last → Event → Bool
+eventNames p last (Level level manual) = false
+eventNames p last (Mission mission) = false
+eventNames p last Mode = false
+eventNames p last (Hole entered) = false
+eventNames p last (Order q accepting cause) = samePartner p (meant last q)
+eventNames p last EndAll = false
+eventNames p last (Call q) = samePartner p q
+eventNames p last (Named q e) = samePartner p q
 
 abbrev pub isTimeout : PartnerEvent → Bool
 isTimeout Drop = false
@@ -128,17 +131,18 @@ abbrev pub ofReading : (Event → Bool) → Reading → Bool
 ofReading test (Meant e) = test e
 ofReading test (Refused r) = false
 
-abbrev pub names : Partner → List ℕ → Bool
-names p bytes = ofReading (eventNames p) (reading bytes)
+abbrev pub names : Partner → State → List ℕ → Bool
+names p s bytes = ofReading (eventNames p (s .last)) (reading bytes)
 
 -- a timeout for a partner
 abbrev pub timeoutFor : Partner → List ℕ → Bool
 timeoutFor p bytes = ofReading (eventTimeout p) (reading bytes)
 
 -- "is from then on named by nothing but timeouts"
-unfoldable pub silent : Partner → List (List ℕ) → Bool
-silent p [] = true
-silent p (bytes ∷ history) = (not (names p bytes) || timeoutFor p bytes) && silent p history
+unfoldable pub silent : Partner → State → List (List ℕ) → Bool
+silent p s [] = true
+silent p s (bytes ∷ history) =
+    (not (names p s bytes) || timeoutFor p bytes) && silent p (onRecord s bytes actionRoom .state) history
 
 unfoldable pub timeouts : Partner → List (List ℕ) → ℕ
 timeouts p [] = 0
@@ -166,8 +170,8 @@ waits p = some (waitsAt p)
 abbrev pub releaseOf : Partner → Action → Bool
 releaseOf p a = isRelease a && samePartner p (a .partner)
 
-abbrev pub releasesOf : Partner → ℕ → State → List (List ℕ) → ℕ
-releasesOf p = summed (λ bytes o. count (releaseOf p) (o .actions))
+abbrev pub releasesOf : Partner → State → List (List ℕ) → ℕ
+releasesOf p = summed (λ s bytes o. count (releaseOf p) (o .actions))
 
 -- the tries used at a place, 0 where it is free
 abbrev pub heldTries : Place → ℕ
@@ -188,14 +192,22 @@ abbrev pub timeoutsToRelease : ℕ → ℕ
 timeoutsToRelease n = n
 
 -- what one partner counts for: the actions for it, and the accepted orders, calls 38 and losses that name it
-abbrev pub actionsOf : Partner → ℕ → State → List (List ℕ) → ℕ
-actionsOf p = summed (λ bytes o. count (λ a. samePartner p (a .partner)) (o .actions))
+abbrev pub actionsOf : Partner → State → List (List ℕ) → ℕ
+actionsOf p = summed (λ s bytes o. count (λ a. samePartner p (a .partner)) (o .actions))
 
-abbrev pub ordersOf : Partner → ℕ → State → List (List ℕ) → ℕ
-ordersOf p = summed (acceptedAs (λ bytes. names p bytes && isOrder bytes))
+abbrev pub ordersOf : Partner → State → List (List ℕ) → ℕ
+ordersOf p = summed (acceptedAs (λ s bytes. names p s bytes && isOrder bytes))
 
-abbrev pub callsOf : Partner → ℕ → State → List (List ℕ) → ℕ
-callsOf p = summed (acceptedAs (λ bytes. names p bytes && isCall bytes))
+abbrev pub callsOf : Partner → State → List (List ℕ) → ℕ
+callsOf p = summed (acceptedAs (λ s bytes. names p s bytes && isCall bytes))
 
-abbrev pub lossesOf : Partner → ℕ → State → List (List ℕ) → ℕ
-lossesOf p = summed (acceptedAs (λ bytes. names p bytes && isLoss bytes))
+abbrev pub lossesOf : Partner → State → List (List ℕ) → ℕ
+lossesOf p = summed (acceptedAs (λ s bytes. names p s bytes && isLoss bytes))
+
+-- the actions of a history, in their order
+unfoldable pub sentBy : List Outcome → List Action
+sentBy [] = []
+sentBy (o ∷ os) = o .actions ++ sentBy os
+
+unfoldable pub sent : State → List (List ℕ) → List Action
+sent s history = sentBy (trace s history)

@@ -1,18 +1,24 @@
--- Document 01, "Worth of each promise": "the histories that reach them", from a cold start with X 1 to 2 and with one partner, RBC 5.
--- Defines: started, rbc5, order5, drop5, up5, lost5, timeout5, version5, call5, ended5, retries, lossesIn, endedLate, ordering,
+-- Document 01, "Worth of each promise": "the histories that reach them", from a cold start with X 1 to 2 and n tries and with one
+-- partner, RBC 5.
+-- Defines: oneToTwo, started, rbc5, order5, drop5, up5, lost5, timeout5, version5, call5, ended5, retries, lossesIn, endedLate, ordering,
 -- calling, repeated, reaching, Sums, sumsOf, counts, oneToNine.
 use Prim.Native.Nat.{ℕ, zero, suc, _-_}
 use mathlib.Core.List.{List, [], _∷_, _++_}
 use lib.ListN.{replicate}
 use Rattle.record.specs.Partners.{rbc}
 use Rattle.record.specs.declared.partner.Partner.{Partner}
+use Rattle.place.specs.declared.limits.Limits.{Limits}
 use Rattle.unit.specs.States.{coldStart}
 use Rattle.unit.specs.declared.state.State.{State}
 use Rattle.history.specs.Histories.{orders, calls, losses, actions}
 
+-- X 1 to 2, and n tries
+abbrev pub oneToTwo : ℕ → Limits
+oneToTwo n = record { lowest = 1; highest = 2; tries = n }
+
 -- the state of the cold start
-abbrev pub started : State
-started = coldStart (record { lowest = 1; highest = 2 }) .state
+abbrev pub started : ℕ → State
+started n = coldStart (oneToTwo n) .state
 
 -- the partner "RBC 5"
 abbrev pub rbc5 : Partner
@@ -84,16 +90,16 @@ pub record Sums : Type 0 where
 unfoldable pub sumsOf : ℕ → List (List ℕ) → Sums
 sumsOf n history =
     record {
-      orders = orders n started history;
-      calls = calls n started history;
-      losses = losses n started history;
-      actions = actions n started history;
+      orders = orders (started n) history;
+      calls = calls (started n) history;
+      losses = losses (started n) history;
+      actions = actions (started n) history;
     }
 
 -- a orders, b calls, c losses and k actions
 abbrev pub counts : ℕ → ℕ → ℕ → ℕ → Sums
 counts a b c k = record { orders = a; calls = b; losses = c; actions = k }
 
--- the limits of tries that are tried one by one
+-- "n, 1 to 9"
 abbrev pub oneToNine : List ℕ
 oneToNine = 1 ∷ 2 ∷ 3 ∷ 4 ∷ 5 ∷ 6 ∷ 7 ∷ 8 ∷ 9 ∷ []

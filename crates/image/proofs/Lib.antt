@@ -3,3 +3,4 @@ pub mod RoundTrips
 pub mod Putting
 pub mod Taking
 pub mod OneAnswer
+pub mod Agreed

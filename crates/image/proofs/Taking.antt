@@ -1,26 +1,31 @@
 -- Reading an image as the code does it: byte after byte, and by what its tests showed.
--- Proves: place-free, place-held, same-end, same-more, same-other, same-lengths, read-empty, read-unknown, read-wrong, read-whole,
--- body-by, part-all, image-body.
+-- Defines: CopiedTo.
+-- Proves: place-free, place-held, last-none, last-some, same-end, same-more, same-other, same-lengths, read-a2-empty,
+-- read-a2-unknown, read-a2-wrong, read-a2-whole, read-empty, read-other, read-a1-wrong, read-a1-whole, body-by, part-all,
+-- image-body, copy-more, copy-length, copy-end.
 use mathlib.Core.Path.{_≡_, refl, sym, ap, ap₂, _∙_}
 use mathlib.Core.Bool.{Bool, true, false, cond, _&&_}
 use mathlib.Core.List.{List, [], _∷_, _++_, append-nil}
 use Prim.Native.Nat.{ℕ, suc, _+_, _-_, _≤_, _<_}
-use native.Mathlib.Nat.{add-zero}
+use native.Mathlib.Nat.{add-zero, zero-add}
 use native.Mathlib.Numerals.{add-one}
 use native.Mathlib.Omega.{arith}
 use lib.Dec.{eqb}
-use lib.ListN.{length, getD, take, drop, drop-of-length-le, length-drop}
-use lib.Seq.{getD-drop, drop-cons, take-all}
+use lib.ListN.{length, getD, set, take, drop, replicate, drop-of-length-le, length-drop}
+use lib.Seq.{getD-drop, drop-cons, take-all, set-at, paste, paste-suc, length-paste}
 use borrow.Author.Tests.{eq-eqb, ne-eqb}
 use Rattle.wire.specs.Bytes.{byte}
 use Rattle.wire.specs.Refusals.{accepted, wrongLength, unknownKind, notSound}
-use Rattle.place.specs.Places.{vacant, seat}
+use Rattle.place.specs.Places.{fleetTries, vacant, seat}
 use Rattle.place.specs.declared.phase.Phase.{Phase}
 use Rattle.place.specs.declared.place.Direction.{Direction}
 use Rattle.unit.specs.States.{placeCount, sound}
+use Rattle.unit.specs.declared.last.Last.the-variants.{Unknown, Known}
 use Rattle.unit.specs.declared.state.State.{State}
-use Rattle.image.specs.Images.{imageKind, imageSize, bodyBytes, imageOf, phaseOf, directionOf, heldIn, placeIn, stateIn, sameBytes, readRefused, readBody, readImage}
-use Rattle.image.proofs.Bytes.{bytes-same, imageOf-length}
+use Rattle.image.specs.Images.{kindA1, kindA2, sizeA1, sizeA2, wholeBytes, imageA2, phaseOf}
+use Rattle.image.specs.Images.{directionOf, heldIn, placeIn, tailAt, lastAt, lastIn}
+use Rattle.image.specs.Images.{stateIn, sameBytes, readRefused, isBodyOf, readBody, tailOfA1, readA2, readImage}
+use Rattle.image.proofs.Bytes.{bytes-same, wholeBytes-length}
 
 module _ (s : List ℕ) (at : ℕ) where
   byte-here : byte (drop at s) 0 ≡ getD s at 0
@@ -51,6 +56,29 @@ module _ (s : List ℕ) (at : ℕ) where
       (record { kind = b 3 kind e₃ i; high = b 4 high e₄ i; middle = b 5 middle e₅ i; low = b 6 low e₆ i }))
       ∙ sym (ap (λ t. cond t vacant (heldIn (drop at s))) (ne-eqb (byte (drop at s) 0) 0 (λ z. some (e₀ ∙ sym byte-here ∙ z))))
 
+-- a first byte of 0 is no last known RBC
+module _ (s : List ℕ) (flag : ℕ) (read : flag ≡ getD s lastAt 0) where
+  pub last-none : flag ≡ 0 → Unknown ≡ lastIn (drop lastAt s)
+  last-none none =
+      let b = drop lastAt s in
+      sym
+      (ap (λ t. cond t Unknown (Known (byte b 1) (byte b 2) (byte b 3)))
+      (eq-eqb (byte b 0) 0 (byte-here s lastAt ∙ sym read ∙ none)))
+
+  pub last-some : (high middle low : ℕ)
+      → high ≡ getD s (lastAt + 1) 0
+      → middle ≡ getD s (lastAt + 2) 0
+      → low ≡ getD s (lastAt + 3) 0
+      → (flag ≡ 0 → ⊥)
+      → Known high middle low ≡ lastIn (drop lastAt s)
+  last-some high middle low e₁ e₂ e₃ some =
+      let b = drop lastAt s in
+      let at : (k : ℕ) → getD s (lastAt + k) 0 ≡ byte b k = λ k. sym (getD-drop lastAt s k 0) in
+      (λ i. Known ((e₁ ∙ at 1) i) ((e₂ ∙ at 2) i) ((e₃ ∙ at 3) i))
+      ∙ sym
+      (ap (λ t. cond t Unknown (Known (byte b 1) (byte b 2) (byte b 3)))
+      (ne-eqb (byte b 0) 0 (λ z. some (read ∙ sym (byte-here s lastAt) ∙ z))))
+
 -- bytes compared one after the other
 module _ (a b : List ℕ) (i : ℕ) (so-far : sameBytes a b ≡ sameBytes (drop i a) (drop i b)) where
   pub same-end : length a ≤ i → length b ≤ i → true ≡ sameBytes a b
@@ -80,59 +108,109 @@ same-lengths a b other = by (sameBytes a b) refl
     by false e = sym e
 
 -- the refusals of a reading, and its body
-module _ (n : ℕ) where
-  pub read-empty : (bytes : List ℕ) → length bytes ≡ 0 → readRefused wrongLength ≡ readImage n bytes
-  unfolding readImage
-  read-empty [] h = refl
-  read-empty (kind ∷ body) h = absurd (omega arith)
+pub read-a2-empty : (bytes : List ℕ) → length bytes ≡ 0 → readRefused wrongLength ≡ readA2 bytes
+unfolding readA2
+read-a2-empty [] h = refl
+read-a2-empty (kind ∷ body) h = absurd (omega arith)
 
-  pub read-unknown : (bytes : List ℕ)
-      → (length bytes ≡ 0 → ⊥)
-      → (getD bytes 0 0 ≡ imageKind → ⊥)
-      → readRefused unknownKind ≡ readImage n bytes
-  unfolding readImage
-  read-unknown [] some other = absurd (some refl)
-  read-unknown (kind ∷ body) some other = simp (ne-eqb kind imageKind other)
+pub read-a2-unknown : (bytes : List ℕ)
+    → (length bytes ≡ 0 → ⊥)
+    → (getD bytes 0 0 ≡ kindA2 → ⊥)
+    → readRefused unknownKind ≡ readA2 bytes
+unfolding readA2
+read-a2-unknown [] some other = absurd (some refl)
+read-a2-unknown (kind ∷ body) some other = simp (ne-eqb kind kindA2 other)
 
-  pub read-wrong : (bytes : List ℕ)
-      → (length bytes ≡ 0 → ⊥)
-      → getD bytes 0 0 ≡ imageKind
-      → (length bytes ≡ imageSize → ⊥)
-      → readRefused wrongLength ≡ readImage n bytes
-  unfolding readImage
-  read-wrong [] some known other = absurd (some refl)
-  read-wrong (kind ∷ body) some known other = simp (eq-eqb kind imageKind known, ne-eqb (length (kind ∷ body)) imageSize other)
+pub read-a2-wrong : (bytes : List ℕ)
+    → (length bytes ≡ 0 → ⊥)
+    → getD bytes 0 0 ≡ kindA2
+    → (length bytes ≡ sizeA2 → ⊥)
+    → readRefused wrongLength ≡ readA2 bytes
+unfolding readA2
+read-a2-wrong [] some known other = absurd (some refl)
+read-a2-wrong (kind ∷ body) some known other = simp (eq-eqb kind kindA2 known, ne-eqb (length (kind ∷ body)) sizeA2 other)
 
-  pub read-whole : (bytes : List ℕ)
-      → (length bytes ≡ 0 → ⊥)
-      → getD bytes 0 0 ≡ imageKind
-      → length bytes ≡ imageSize
-      → readBody n (drop 1 bytes) ≡ readImage n bytes
-  unfolding readImage
-  read-whole [] some known whole = absurd (some refl)
-  read-whole (kind ∷ body) some known whole = simp (eq-eqb kind imageKind known, eq-eqb (length (kind ∷ body)) imageSize whole)
+pub read-a2-whole : (bytes : List ℕ)
+    → (length bytes ≡ 0 → ⊥)
+    → getD bytes 0 0 ≡ kindA2
+    → length bytes ≡ sizeA2
+    → readBody (drop 1 bytes) ≡ readA2 bytes
+unfolding readA2
+read-a2-whole [] some known all = absurd (some refl)
+read-a2-whole (kind ∷ body) some known all = simp (eq-eqb kind kindA2 known, eq-eqb (length (kind ∷ body)) sizeA2 all)
 
-  -- a body by what the two tests showed
-  pub body-by : (body : List ℕ) (s : State) (good own : Bool)
-      → s ≡ stateIn body
-      → sound n s ≡ good
-      → sameBytes (bodyBytes s) body ≡ own
-      → cond (good && own) (record { code = accepted; state = s }) (readRefused notSound) ≡ readBody n body
-  body-by body s good own of-body test written =
-      ap₂ (λ x y. cond (x && y) (record { code = accepted; state = s }) (readRefused notSound)) (sym test) (sym written)
-      ∙ ap (λ x. cond (sound n x && sameBytes (bodyBytes x) body) (record { code = accepted; state = x }) (readRefused notSound)) of-body
+pub read-empty : (bytes : List ℕ) → length bytes ≡ 0 → readRefused wrongLength ≡ readImage bytes
+unfolding readImage
+read-empty [] h = refl
+read-empty (kind ∷ body) h = absurd (omega arith)
+
+pub read-other : (bytes : List ℕ)
+    → (length bytes ≡ 0 → ⊥)
+    → (getD bytes 0 0 ≡ kindA1 → ⊥)
+    → readA2 bytes ≡ readImage bytes
+unfolding readImage
+read-other [] some other = absurd (some refl)
+read-other (kind ∷ body) some other = simp (ne-eqb kind kindA1 other)
+
+pub read-a1-wrong : (bytes : List ℕ)
+    → (length bytes ≡ 0 → ⊥)
+    → getD bytes 0 0 ≡ kindA1
+    → (length bytes ≡ sizeA1 → ⊥)
+    → readRefused wrongLength ≡ readImage bytes
+unfolding readImage
+read-a1-wrong [] some known other = absurd (some refl)
+read-a1-wrong (kind ∷ body) some known other = simp (eq-eqb kind kindA1 known, ne-eqb (length (kind ∷ body)) sizeA1 other)
+
+pub read-a1-whole : (bytes : List ℕ)
+    → (length bytes ≡ 0 → ⊥)
+    → getD bytes 0 0 ≡ kindA1
+    → length bytes ≡ sizeA1
+    → readBody (drop 1 bytes ++ tailOfA1) ≡ readImage bytes
+unfolding readImage
+read-a1-whole [] some known all = absurd (some refl)
+read-a1-whole (kind ∷ body) some known all = simp (eq-eqb kind kindA1 known, eq-eqb (length (kind ∷ body)) sizeA1 all)
+
+-- a body by what the two tests showed
+pub body-by : (body : List ℕ) (s : State) (good own : Bool)
+    → s ≡ stateIn body
+    → sound s ≡ good
+    → sameBytes (wholeBytes s) body ≡ own
+    → cond (good && own) (record { code = accepted; state = s }) (readRefused notSound) ≡ readBody body
+body-by body s good own of-body test written =
+    ap₂ (λ x y. cond (x && y) (record { code = accepted; state = s }) (readRefused notSound)) (sym test) (sym written)
+    ∙ ap (λ x. cond (isBodyOf x body) (record { code = accepted; state = x }) (readRefused notSound)) of-body
 
 -- a slice from a place to its end
 pub part-all : (l : List ℕ) (a : ℕ) → take (length l - a) (drop a l) ≡ drop a l
 part-all l a = take-all (length l - a) (drop a l) (simp length-drop (omega arith))
 
--- an image in an array of its size, after its kind, is the body of its state
+-- an image A2 in an array of its size, after its kind
 pub image-body : (s : State) (image zeros : List ℕ)
     → length (s .places) ≡ placeCount
-    → length zeros ≡ imageSize
-    → image ≡ imageOf s ++ drop imageSize zeros
-    → take (imageSize - 1) (drop 1 image) ≡ bodyBytes s
-unfolding imageOf
+    → length zeros ≡ sizeA2
+    → image ≡ imageA2 s ++ drop sizeA2 zeros
+    → take (sizeA2 - 1) (drop 1 image) ≡ wholeBytes s
+unfolding imageA2
 image-body s image zeros four all wrote =
-    ap (λ l. take (imageSize - 1) (drop 1 l)) (wrote ∙ ap (_++_ (imageOf s)) (drop-of-length-le zeros {i = imageSize} (omega arith)) ∙ append-nil (imageOf s))
-    ∙ take-all 36 (bodyBytes s) (omega (arith, imageOf-length s four))
+    ap (λ l. take (sizeA2 - 1) (drop 1 l))
+    (wrote ∙ ap (_++_ (imageA2 s)) (drop-of-length-le zeros {i = sizeA2} (omega arith)) ∙ append-nil (imageA2 s))
+    ∙ take-all 41 (wholeBytes s) (omega (arith, wholeBytes-length s four))
+
+-- the body of an image A1, copied byte after byte to the front of 41 zeros, and the tries after it
+abbrev pub CopiedTo : List ℕ → ℕ → List ℕ
+CopiedTo body i = paste (replicate 41 0) 0 body i
+
+module _ (body : List ℕ) (long : length body ≡ tailAt) where
+  pub copy-more : (i : ℕ) → i < tailAt → set (CopiedTo body i) i (getD body i 0) ≡ CopiedTo body (i + 1)
+  copy-more i below =
+      ap (λ k. set (CopiedTo body i) k (getD body i 0)) (sym (zero-add i))
+      ∙ paste-suc (replicate 41 0) 0 body i 0 (omega arith) (omega (arith, long))
+      ∙ ap (CopiedTo body) (sym (add-one i))
+
+  pub copy-length : (i : ℕ) → i ≤ tailAt → length (CopiedTo body i) ≡ 41
+  copy-length i below = length-paste (replicate 41 0) 0 body i (omega arith) (omega (arith, long))
+
+  pub copy-end : set (CopiedTo body tailAt) tailAt fleetTries ≡ body ++ tailOfA1
+  copy-end =
+      ap (λ l. set (l ++ replicate 5 0) tailAt fleetTries) (take-all tailAt body (omega (arith, long)))
+      ∙ set-at body 0 (replicate 4 0) fleetTries tailAt long

@@ -1,33 +1,42 @@
--- Document 01, "Stored image": the 37 bytes of a state, and the state of 37 bytes.
--- Defines: imageKind, imageSize, placeSize, placeBytes, placesBytes, markByte, headBytes, bodyBytes, imageOf,
--- writeRefused, writeImage, imaged, phaseOf, directionOf, heldIn, placeIn, placesIn, headSize, placesAt, stateIn, sameBytes, readRefused,
--- isBodyOf, readBody, readImage.
-use Prim.Native.Nat.{ℕ, zero, suc, _+_}
+-- Document 01, "Stored image", and request Q-4: the bytes of a state as A1 and as A2, and the state of such bytes.
+-- Defines: kindA1, kindA2, sizeA1, sizeA2, placeSize, placeBytes, placesBytes, markByte, headBytes, bodyBytes, lastBytes, tailBytes,
+-- wholeBytes, imageA1, imageA2, isUnknown, fitsA1, writeRefused, writeAccepted, writeA2, writeA1, imagedA2, imagedA1, phaseOf,
+-- directionOf, heldIn, placeIn, placesIn, headSize, placesAt, tailAt, lastAt, lastIn, stateIn, sameBytes, readRefused, isBodyOf,
+-- readBody, tailOfA1, ofLength, readA2, readImage.
+use Prim.Native.Nat.{ℕ, zero, suc, _+_, _*_}
 use mathlib.Core.Bool.{Bool, true, false, cond, _&&_}
 use mathlib.Core.List.{List, [], _∷_, _++_}
 use lib.Dec.{eqb, leb}
 use lib.ListN.{length, drop, replicate}
 use Rattle.wire.specs.Blocks.{blocks}
 use Rattle.wire.specs.Bytes.{byte, flag}
-use Rattle.wire.specs.Refusals.{accepted, wrongLength, unknownKind, noRoom, notSound}
-use Rattle.place.specs.Places.{phaseNumber, tries, directionNumber, vacant, seat, onHolding}
+use Rattle.wire.specs.Refusals.{accepted, wrongLength, unknownKind, noRoom, notSound, notInA1}
+use Rattle.place.specs.Places.{phaseNumber, tries, directionNumber, fleetTries, vacant, seat, onHolding}
 use Rattle.place.specs.declared.phase.Phase.{Phase}
 use Rattle.place.specs.declared.phase.Phase.the-variants.{Connecting, Contacting, Open, Lost, Ending}
 use Rattle.place.specs.declared.place.Direction.{Direction}
 use Rattle.place.specs.declared.place.Direction.the-variants.{Outgoing, Incoming}
 use Rattle.place.specs.declared.place.Place.{Place}
 use Rattle.unit.specs.States.{cold, noLimits, placeCount, sound}
+use Rattle.unit.specs.declared.last.Last.{Last}
+use Rattle.unit.specs.declared.last.Last.the-variants.{Unknown, Known}
 use Rattle.unit.specs.declared.state.State.{State}
 use Rattle.unit.specs.declared.start.Started.{Started}
 use Rattle.image.specs.declared.write.Stored.{Stored}
 
--- "kind A1 hex"
-abbrev pub imageKind : ℕ
-imageKind = 0xA1
+-- "kind A1 hex"; Q-4: "Kind A2"
+abbrev pub kindA1 : ℕ
+kindA1 = 0xA1
 
--- "37 bytes"
-abbrev pub imageSize : ℕ
-imageSize = 37
+abbrev pub kindA2 : ℕ
+kindA2 = 0xA2
+
+-- "37 bytes"; Q-4: "42 bytes"
+abbrev pub sizeA1 : ℕ
+sizeA1 = 37
+
+abbrev pub sizeA2 : ℕ
+sizeA2 = 42
 
 -- "four places of seven bytes"
 abbrev pub placeSize : ℕ
@@ -61,29 +70,64 @@ headBytes s =
     ∷ markByte (s .marks .end)
     ∷ []
 
--- the image's body: all but its kind
+-- the 36 bytes of both kinds after the first
 unfoldable pub bodyBytes : State → List ℕ
 bodyBytes s = headBytes s ++ placesBytes (s .places)
 
--- the image of a state
-unfoldable pub imageOf : State → List ℕ
-imageOf s = imageKind ∷ bodyBytes s
+-- Q-4: "then 1 and the last RBC's three bytes, or four zeros when none is known"
+abbrev pub lastBytes : Last → List ℕ
+lastBytes Unknown = replicate 4 0
+lastBytes (Known high middle low) = 1 ∷ high ∷ middle ∷ low ∷ []
 
--- what a refused write answers
+-- Q-4: "the 36 old body bytes, then n, then .."
+abbrev pub tailBytes : State → List ℕ
+tailBytes s = s .limits .tries ∷ lastBytes (s .last)
+
+unfoldable pub wholeBytes : State → List ℕ
+wholeBytes s = bodyBytes s ++ tailBytes s
+
+-- the images of a state
+unfoldable pub imageA1 : State → List ℕ
+imageA1 s = kindA1 ∷ bodyBytes s
+
+unfoldable pub imageA2 : State → List ℕ
+imageA2 s = kindA2 ∷ wholeBytes s
+
+-- Q-4: "A1 can hold neither the last RBC nor n": the state fits it where n is 3 and none is known
+abbrev pub isUnknown : Last → Bool
+isUnknown Unknown = true
+isUnknown (Known high middle low) = false
+
+abbrev pub fitsA1 : State → Bool
+fitsA1 s = eqb (s .limits .tries) fleetTries && isUnknown (s .last)
+
+-- what a refused write answers, and an accepted one
 abbrev pub writeRefused : ℕ → State → Stored
 writeRefused r s = record { code = r; state = s; count = 0 }
 
--- "Image write: 10, 11": room is the length of the buffer
-unfoldable pub writeImage : ℕ → State → ℕ → Stored
-writeImage n s room =
-    cond (leb imageSize room)
-    (cond (sound n s) (record { code = accepted; state = s; count = imageSize }) (writeRefused notSound s))
+abbrev pub writeAccepted : ℕ → State → Stored
+writeAccepted size s = record { code = accepted; state = s; count = size }
+
+-- "Image write: 10, 11": room is the length of the buffer; Q-4: "Image buffers must have 42 bytes for A2"
+unfoldable pub writeA2 : State → ℕ → Stored
+writeA2 s room =
+    cond (leb sizeA2 room) (cond (sound s) (writeAccepted sizeA2 s) (writeRefused notSound s)) (writeRefused noRoom s)
+
+-- Q-4: "16, the state doesn't fit A1, after 10 and 11"
+unfoldable pub writeA1 : State → ℕ → Stored
+writeA1 s room =
+    cond (leb sizeA1 room)
+    (cond (sound s) (cond (fitsA1 s) (writeAccepted sizeA1 s) (writeRefused notInA1 s)) (writeRefused notSound s))
     (writeRefused noRoom s)
 
 -- the buffer after a write: "An accepted call writes only its .. image; later bytes stay"
-unfoldable pub imaged : ℕ → State → List ℕ → List ℕ
-imaged n s buffer =
-    cond (leb imageSize (length buffer)) (cond (sound n s) (imageOf s ++ drop imageSize buffer) buffer) buffer
+unfoldable pub imagedA2 : State → List ℕ → List ℕ
+imagedA2 s buffer =
+    cond (leb sizeA2 (length buffer)) (cond (sound s) (imageA2 s ++ drop sizeA2 buffer) buffer) buffer
+
+unfoldable pub imagedA1 : State → List ℕ → List ℕ
+imagedA1 s buffer =
+    cond (leb sizeA1 (length buffer)) (cond (sound s) (cond (fitsA1 s) (imageA1 s ++ drop sizeA1 buffer) buffer) buffer) buffer
 
 -- Reading an image: it is accepted exactly when these bytes are the image of a sound state (`readBody`; that it is so are the promises
 -- `read-written` and `written-read`). The one state that can write them is found by decoding. Bytes that no state writes decode to
@@ -121,14 +165,26 @@ headSize = 8
 abbrev pub placesAt : ℕ
 placesAt = 1 + headSize
 
--- the state that a body of bytes stands for, if any does
+-- where n stands in a body of A2, after its head and its places, and where the last known RBC
+abbrev pub tailAt : ℕ
+tailAt = headSize + placeCount * placeSize
+
+abbrev pub lastAt : ℕ
+lastAt = tailAt + 1
+
+-- the last known RBC that four bytes stand for: none where the first is 0
+abbrev pub lastIn : List ℕ → Last
+lastIn s = cond (eqb (byte s 0) 0) Unknown (Known (byte s 1) (byte s 2) (byte s 3))
+
+-- the state that a body of A2 stands for, if any does
 unfoldable pub stateIn : List ℕ → State
 stateIn s =
     record {
-      limits = record { lowest = byte s 0; highest = byte s 1 };
+      limits = record { lowest = byte s 0; highest = byte s 1; tries = byte s tailAt };
       train = record { level = byte s 2; mission = byte s 3 };
       marks = record { inside = flag (byte s 4); mode = flag (byte s 5); manual = flag (byte s 6); end = flag (byte s 7) };
       places = placesIn placeCount (drop headSize s);
+      last = lastIn (drop lastAt s);
     }
 
 unfoldable pub sameBytes : List ℕ → List ℕ → Bool
@@ -141,20 +197,30 @@ abbrev pub readRefused : ℕ → Started
 readRefused r = record { code = r; state = cold noLimits }
 
 -- these bytes are the body of the image of this state, and the state is sound
-abbrev pub isBodyOf : ℕ → State → List ℕ → Bool
-isBodyOf n s body = sound n s && sameBytes (bodyBytes s) body
+abbrev pub isBodyOf : State → List ℕ → Bool
+isBodyOf s body = sound s && sameBytes (wholeBytes s) body
 
--- accepted exactly where these bytes are the body of the image of a sound state, which is then the one that they decode to
-abbrev pub readBody : ℕ → List ℕ → Started
-readBody n body =
-    cond (isBodyOf n (stateIn body) body)
+-- accepted exactly where these bytes are the body of the image A2 of a sound state, which is then the one that they decode to
+abbrev pub readBody : List ℕ → Started
+readBody body =
+    cond (isBodyOf (stateIn body) body)
     (record { code = accepted; state = stateIn body })
     (readRefused notSound)
 
--- "Image read: 1 (empty), 2, 1 (length), 11"; the kind is unknown where the first byte is not A1
-unfoldable pub readImage : ℕ → List ℕ → Started
-readImage n [] = readRefused wrongLength
-readImage n (kind ∷ body) =
-    cond (eqb kind imageKind)
-    (cond (eqb (length (kind ∷ body)) imageSize) (readBody n body) (readRefused wrongLength))
-    (readRefused unknownKind)
+-- Q-4: "A1 is read as n = 3 and none known": what A2 has after the body of A1
+abbrev pub tailOfA1 : List ℕ
+tailOfA1 = fleetTries ∷ lastBytes Unknown
+
+-- "1 (length), 11": the bytes of an image of this size, and its body as A2 has it
+abbrev pub ofLength : ℕ → List ℕ → List ℕ → Started
+ofLength size image body = cond (eqb (length image) size) (readBody body) (readRefused wrongLength)
+
+-- "Image read: 1 (empty), 2, 1 (length), 11", of A2 alone: the kind of any other image is unknown
+unfoldable pub readA2 : List ℕ → Started
+readA2 [] = readRefused wrongLength
+readA2 (kind ∷ body) = cond (eqb kind kindA2) (ofLength sizeA2 (kind ∷ body) body) (readRefused unknownKind)
+
+-- and of either kind
+unfoldable pub readImage : List ℕ → Started
+readImage [] = readRefused wrongLength
+readImage (kind ∷ body) = cond (eqb kind kindA1) (ofLength sizeA1 (kind ∷ body) (body ++ tailOfA1)) (readA2 (kind ∷ body))

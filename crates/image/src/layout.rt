@@ -1,10 +1,14 @@
-// The layout of an image: its kind, its length, and where its places begin.
+// The layout of an image: its kinds, their lengths, and where its places begin.
 
-// The kind of an image.
-pub const IMAGE_KIND: u8 = 0xA1;
+// The kinds of an image.
+pub const KIND_A1: u8 = 0xA1;
 
-// The length of an image.
-pub const IMAGE_SIZE: usize = 37;
+pub const KIND_A2: u8 = 0xA2;
+
+// The length of an image of each kind.
+pub const SIZE_A1: usize = 37;
+
+pub const SIZE_A2: usize = 42;
 
 // Where the places begin, and the bytes of each.
 pub const PLACES_AT: usize = 9;

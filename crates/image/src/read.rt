@@ -2,19 +2,23 @@
 ghost use mathlib.Core.Path.{_≡_};
 ghost use Prim.Native.Nat.{_<_};
 ghost use mathlib.Core.Bool.{true};
-ghost use lib.ListN.{drop};
-ghost use Rattle.place.specs.Places.{tryLimit};
+ghost use mathlib.Core.List.{_++_};
+ghost use lib.ListN.{length, drop};
 ghost use Rattle.unit.specs.States.{sound};
-ghost use Rattle.image.specs.Images.{bodyBytes, phaseOf, directionOf, placeIn};
-ghost use Rattle.image.specs.Images.{stateIn, sameBytes, readRefused, readBody, readImage};
-use crate::layout::IMAGE_KIND;
-use crate::layout::IMAGE_SIZE;
+ghost use Rattle.image.specs.Images.{wholeBytes, phaseOf, directionOf, placeIn};
+ghost use Rattle.image.specs.Images.{stateIn, sameBytes, readRefused, readBody, tailOfA1, readA2, readImage};
+use crate::layout::KIND_A1;
+use crate::layout::KIND_A2;
+use crate::layout::SIZE_A1;
+use crate::layout::SIZE_A2;
 use crate::write::put_image;
+use place::limits::FLEET_TRIES;
 use place::limits::Limits;
 use place::phase::Phase;
 use place::place::Direction;
 use place::place::Place;
 use record::partner::Partner;
+use unit::last::Last;
 use unit::start::Started;
 use unit::start::cold_start;
 use unit::state::Marks;
@@ -73,8 +77,9 @@ fn limits_in(s: &[u8]) -> Limits
     ensures { λ r. ⌜ r ≡ stateIn (now (s .entry)) .limits ⌝ }
 {
     Limits {
-        lowest: word(byte_at(s, 0)),
-        highest: word(byte_at(s, 1)),
+        lowest: byte_at(s, 0),
+        highest: byte_at(s, 1),
+        tries: byte_at(s, 36),
     }
 }
 
@@ -98,7 +103,21 @@ fn marks_in(s: &[u8]) -> Marks
     }
 }
 
-// The state that an image's body, its bytes after the kind, stands for, if it stands for any: nothing is tested.
+fn last_in(s: &[u8]) -> Last
+    ensures { λ r. ⌜ r ≡ stateIn (now (s .entry)) .last ⌝ }
+{
+    let flag = byte_at(s, 37);
+    if flag == 0 {
+        return Last::Unknown;
+    }
+    Last::Known {
+        high: byte_at(s, 38),
+        middle: byte_at(s, 39),
+        low: byte_at(s, 40),
+    }
+}
+
+// The state that the body of an image A2, its bytes after the kind, stands for, if it stands for any: nothing is tested.
 fn state_in(body: &[u8]) -> State
     ensures { λ r. ⌜ r ≡ stateIn (now (body .entry)) ⌝ }
 {
@@ -112,6 +131,7 @@ fn state_in(body: &[u8]) -> State
             place_at(body, 22),
             place_at(body, 29),
         ],
+        last: last_in(body),
     }
 }
 
@@ -141,24 +161,25 @@ fn refused(code: u8) -> Started
     let start = cold_start(Limits {
         lowest: 0,
         highest: 0,
+        tries: FLEET_TRIES,
     });
     let state = start.state;
     Started { code, state }
 }
 
-// Whether these bytes are the ones that a sound state writes after the kind.
+// Whether these bytes are the ones that a sound state writes after the kind of A2.
 fn writes(state: State, body: &[u8]) -> bool
-    requires { ⌜ sound tryLimit state ≡ true ⌝ }
-    ensures { λ r. ⌜ r ≡ sameBytes (bodyBytes state) (now (body .entry)) ⌝ }
+    requires { ⌜ sound state ≡ true ⌝ }
+    ensures { λ r. ⌜ r ≡ sameBytes (wholeBytes state) (now (body .entry)) ⌝ }
 {
-    let mut image = [0u8; 37];
+    let mut image = [0u8; 42];
     put_image(&mut image, state);
     same(&image[1..], body)
 }
 
-// The state of an image's 36 bytes after the kind; refusal 11 where its content is not sound.
+// The state of the 41 bytes of an image A2 after the kind; refusal 11 where its content is not sound.
 fn read_body(body: &[u8]) -> Started
-    ensures { λ r. ⌜ r ≡ readBody tryLimit (now (body .entry)) ⌝ }
+    ensures { λ r. ⌜ r ≡ readBody (now (body .entry)) ⌝ }
 {
     let state = state_in(body);
     if state.is_sound() {
@@ -175,18 +196,51 @@ fn read_body(body: &[u8]) -> Started
     }
 }
 
-// Reads an image: refusals 1 (empty), 2, 1 (length), 11, the first that applies; a refused read gives the cold state with X from 0 to 0.
-pub fn read_image(bytes: &[u8]) -> Started
-    ensures { λ r. ⌜ r ≡ readImage tryLimit (now (bytes .entry)) ⌝ }
+// The state of the 36 bytes of an image A1 after the kind, read as three tries and no RBC known.
+fn read_body_a1(body: &[u8]) -> Started
+    requires { ⌜ length (now body) ≡ 36 ⌝ }
+    ensures { λ r. ⌜ r ≡ readBody (now (body .entry) ++ tailOfA1) ⌝ }
+{
+    let mut whole = [0u8; 41];
+    let mut i = 0;
+    while i < 36 {
+        whole[i] = body[i];
+        i += 1;
+    }
+    whole[36] = FLEET_TRIES;
+    read_body(&whole)
+}
+
+// Reads an image A2: refusals 1 (empty), 2, 1 (length), 11, the first that applies; a refused read gives the cold state with X from
+// 0 to 0 and three tries.
+pub fn read_a2(bytes: &[u8]) -> Started
+    ensures { λ r. ⌜ r ≡ readA2 (now (bytes .entry)) ⌝ }
 {
     if bytes.len() == 0 {
         return refused(WRONG_LENGTH);
     }
-    if bytes[0] != IMAGE_KIND {
+    if bytes[0] != KIND_A2 {
         return refused(UNKNOWN_KIND);
     }
-    if bytes.len() != IMAGE_SIZE {
+    if bytes.len() != SIZE_A2 {
         return refused(WRONG_LENGTH);
     }
     read_body(&bytes[1..])
+}
+
+// Reads an image of either kind, told by its first byte: refusals as for A2, and 2 where it is neither. A1 is read as three tries and
+// no RBC known.
+pub fn read_image(bytes: &[u8]) -> Started
+    ensures { λ r. ⌜ r ≡ readImage (now (bytes .entry)) ⌝ }
+{
+    if bytes.len() == 0 {
+        return refused(WRONG_LENGTH);
+    }
+    if bytes[0] != KIND_A1 {
+        return read_a2(bytes);
+    }
+    if bytes.len() != SIZE_A1 {
+        return refused(WRONG_LENGTH);
+    }
+    read_body_a1(&bytes[1..])
 }

@@ -11,14 +11,14 @@ use Rattle.place.specs.declared.turn.Turn.{Turn}
 use Rattle.place.specs.declared.turn.Turn.the-variants.{Stays, Sends, SendsBoth}
 
 -- a law of every turn is one of every cell of every row
-pub by-row : (P : Phase → Turn → Type 0) (n : ℕ) (l : Limits)
-    → ((ph : Phase) (v : ℕ) → All (λ c. P ph (play n l ph v c)) (table ph))
+pub by-row : (P : Phase → Turn → Type 0) (l : Limits)
+    → ((ph : Phase) (v : ℕ) → All (λ c. P ph (play l ph v c)) (table ph))
     → ((ph : Phase) → P ph Stays)
     → (ph : Phase) (e : PartnerEvent)
-    → P ph (turn n l ph e)
+    → P ph (turn l ph e)
 unfolding turn
-by-row P n l row outside ph e =
-    getD-all (λ c. P ph (play n l ph (versionOf e) c)) (table ph) refuse (row ph (versionOf e)) (outside ph) (column e)
+by-row P l row outside ph e =
+    getD-all (λ c. P ph (play l ph (versionOf e) c)) (table ph) refuse (row ph (versionOf e)) (outside ph) (column e)
 
 -- a judged version opens the session or ends it
 pub judged-case : (P : Turn → Type 0) (l : Limits) (v : ℕ)

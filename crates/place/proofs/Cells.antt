@@ -29,18 +29,18 @@ cell-none zero above = refl
 cell-none (suc choice) above = List·getD-eq-default legend refuse (above (omega arith))
 
 -- what the cell of a known number makes of a phase
-pub play-at : (n : ℕ) (l : Limits) (ph : Phase) (v choice : ℕ) (c : Cell) (r : Turn)
+pub play-at : (l : Limits) (ph : Phase) (v choice : ℕ) (c : Cell) (r : Turn)
     → cellOf choice ≡ c
-    → r ≡ play n l ph v c
-    → r ≡ play n l ph v (cellOf choice)
-play-at n l ph v choice c r e h = h ∙ ap (play n l ph v) (sym e)
+    → r ≡ play l ph v c
+    → r ≡ play l ph v (cellOf choice)
+play-at l ph v choice c r e h = h ∙ ap (play l ph v) (sym e)
 
-pub turn-by : (n : ℕ) (l : Limits) (ph : Phase) (e : PartnerEvent) (v : ℕ) (c : Cell)
+pub turn-by : (l : Limits) (ph : Phase) (e : PartnerEvent) (v : ℕ) (c : Cell)
     → v ≡ versionOf e
     → c ≡ cell ph e
-    → play n l ph v c ≡ turn n l ph e
+    → play l ph v c ≡ turn l ph e
 unfolding turn
-turn-by n l ph e v c version same = ap₂ (play n l ph) version same
+turn-by l ph e v c version same = ap₂ (play l ph) version same
 
 pub judged-by : (l : Limits) (v x : ℕ) (b t : Bool)
     → x ≡ v / 16
@@ -51,14 +51,14 @@ judged-by l v x b t of-version test known =
     ap (λ u. cond u (Sends established Open) (SendsBoth incompatible terminate (Ending firstTry)))
     (sym known ∙ test ∙ ap (λ y. leb (l .lowest) y && leb y (l .highest)) of-version)
 
-module _ (n number : ℕ) (ph : Phase) (used : ℕ) (of-phase : used ≡ tries ph) where
-  pub again-more : (q : Phase) → used < n → q ≡ withTries ph (used + 1) → Sends number q ≡ again n number ph
+module _ (l : Limits) (number : ℕ) (ph : Phase) (used : ℕ) (of-phase : used ≡ tries ph) where
+  pub again-more : (q : Phase) → used < l .tries → q ≡ withTries ph (used + 1) → Sends number q ≡ again l number ph
   again-more q below more =
       ap (Sends number) (more ∙ ap (λ t. withTries ph (t + 1)) of-phase)
-      ∙ sym (ap (λ b. cond b (Sends number (oneMore ph)) Released) (lt-ltb (tries ph) n (omega arith)))
+      ∙ sym (ap (λ b. cond b (Sends number (oneMore ph)) Released) (lt-ltb (tries ph) (l .tries) (omega arith)))
 
-  pub again-last : n ≤ used → Released ≡ again n number ph
-  again-last above = sym (ap (λ b. cond b (Sends number (oneMore ph)) Released) (le-ltb (tries ph) n (omega arith)))
+  pub again-last : l .tries ≤ used → Released ≡ again l number ph
+  again-last above = sym (ap (λ b. cond b (Sends number (oneMore ph)) Released) (le-ltb (tries ph) (l .tries) (omega arith)))
 
 -- a closing by what the test for it showed
 pub closedBy-known : (which : Closing) (k : Holding) (d : Direction) (ph : Phase) (p : Partner) (b t : Bool)

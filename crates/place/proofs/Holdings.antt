@@ -1,6 +1,5 @@
 -- What is said of a place, said of what it holds.
 -- Defines: isFreeHolding, partnerHeld, phaseHeld, holdsIn, holdingOk, holdingTurn, holdingClosedBy.
-use Prim.Native.Nat.{ℕ}
 use mathlib.Core.Bool.{Bool}
 use Rattle.record.specs.declared.partner.Partner.{Partner}
 use Rattle.record.specs.declared.event.PartnerEvent.{PartnerEvent}
@@ -25,12 +24,12 @@ phaseHeld k = heldPhase (record { holding = k })
 abbrev pub holdsIn : Partner → Holding → Bool
 holdsIn p k = holds p (record { holding = k })
 
-abbrev pub holdingOk : ℕ → Holding → Bool
-holdingOk n k = placeOk n (record { holding = k })
+abbrev pub holdingOk : Limits → Holding → Bool
+holdingOk l k = placeOk l (record { holding = k })
 
 -- what an event that names the partner makes of its place
-abbrev pub holdingTurn : ℕ → Limits → Holding → PartnerEvent → Turn
-holdingTurn n l k e = onHolding Stays (λ d ph p. turn n l ph e) k
+abbrev pub holdingTurn : Limits → Holding → PartnerEvent → Turn
+holdingTurn l k e = onHolding Stays (λ d ph p. turn l ph e) k
 
 abbrev pub holdingClosedBy : Closing → Holding → Turn
 holdingClosedBy which k = closedBy which (record { holding = k })

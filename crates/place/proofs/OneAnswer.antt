@@ -78,11 +78,11 @@ pub place-holds-once : (κ : _) (self : _) (partner : _) (r₁ : _) (r₂ : _)
     → r₁ ≡ r₂
 place-holds-once κ self partner r₁ r₂ p q = p ∙ sym q
 
-pub place-is-sound-once : (κ : _) (self : _) (r₁ : _) (r₂ : _)
-    → place-is-sound.Post κ (self, tt) r₁ (self, tt)
-    → place-is-sound.Post κ (self, tt) r₂ (self, tt)
+pub place-is-sound-once : (κ : _) (self : _) (limits : _) (r₁ : _) (r₂ : _)
+    → place-is-sound.Post κ (self, (limits, tt)) r₁ (self, (limits, tt))
+    → place-is-sound.Post κ (self, (limits, tt)) r₂ (self, (limits, tt))
     → r₁ ≡ r₂
-place-is-sound-once κ self r₁ r₂ p q = p ∙ sym q
+place-is-sound-once κ self limits r₁ r₂ p q = p ∙ sym q
 
 pub place-closed-by-once : (κ : _) (self : _) (which : _) (r₁ : _) (r₂ : _)
     → place-closed-by.Post κ (self, (which, tt)) r₁ (self, (which, tt))

@@ -7,7 +7,7 @@ use native.Mathlib.Omega.{arith}
 use lib.Dec.{leb, ltb}
 use lib.ListN.{length}
 use borrow.Author.Tests.{ltb-true, le-leb}
-use Rattle.record.specs.Partners.{isRbc, partnerOk}
+use Rattle.record.specs.Partners.{isRbc, namedOk}
 use Rattle.record.specs.declared.partner.Partner.{Partner}
 use Rattle.record.specs.declared.event.PartnerEvent.{PartnerEvent}
 use Rattle.wire.proofs.Tests.{and-left, and-right, and-both, true-false, cond-case, cond-holds, All}
@@ -29,13 +29,14 @@ use Rattle.place.specs.declared.turn.Closing.the-variants.{Sessions}
 use Rattle.place.proofs.ByRow.{by-row, judged-case}
 use Rattle.place.specs.Turns.{NextSound, SeatOf}
 
-more-ok : (n : ℕ) (ph : Phase) → ltb (tries ph) n ≡ true → phaseOk n (oneMore ph) ≡ true
-more-ok n ph lt = by ph (ltb-true (tries ph) n lt)
+more-ok : (l : Limits) (ph : Phase) → ltb (tries ph) (l .tries) ≡ true → phaseOk l (oneMore ph) ≡ true
+more-ok l ph lt = by ph (ltb-true (tries ph) (l .tries) lt)
   where
-    within : (t : ℕ) → t + 1 ≤ n → (leb 1 (t + 1) && leb (t + 1) n) ≡ true
-    within t h = and-both (leb 1 (t + 1)) (leb (t + 1) n) (le-leb 1 (t + 1) (omega arith)) (le-leb (t + 1) n h)
+    within : (t : ℕ) → t + 1 ≤ l .tries → (leb 1 (t + 1) && leb (t + 1) (l .tries)) ≡ true
+    within t h =
+        and-both (leb 1 (t + 1)) (leb (t + 1) (l .tries)) (le-leb 1 (t + 1) (omega arith)) (le-leb (t + 1) (l .tries) h)
 
-    by : (q : Phase) → tries q < n → phaseOk n (oneMore q) ≡ true
+    by : (q : Phase) → tries q < l .tries → phaseOk l (oneMore q) ≡ true
     by (Connecting t) h = within t (omega arith)
     by (Contacting t) h = within t (omega arith)
     by Open h = refl
@@ -49,39 +50,39 @@ more-incoming Open h = h
 more-incoming (Lost t) h = h
 more-incoming (Ending t) h = h
 
-module _ (n : ℕ) (some-try : 1 ≤ n) where
-  first-ok : leb 1 n ≡ true
-  first-ok = le-leb 1 n some-try
+module _ (l : Limits) (some-try : 1 ≤ l .tries) where
+  first-ok : leb 1 (l .tries) ≡ true
+  first-ok = le-leb 1 (l .tries) some-try
 
-  again-sound : (number : ℕ) (ph : Phase) → NextSound n ph (again n number ph)
+  again-sound : (number : ℕ) (ph : Phase) → NextSound l ph (again l number ph)
   again-sound number ph =
-      cond-case (NextSound n ph) (ltb (tries ph) n) (Sends number (oneMore ph)) Released
-      (λ lt. (more-ok n ph lt, more-incoming ph))
+      cond-case (NextSound l ph) (ltb (tries ph) (l .tries)) (Sends number (oneMore ph)) Released
+      (λ lt. (more-ok l ph lt, more-incoming ph))
       (λ ge. tt)
 
-  pub closing-sound : (ph : Phase) → NextSound n ph (closing ph)
+  pub closing-sound : (ph : Phase) → NextSound l ph (closing ph)
   closing-sound (Connecting t) = tt
   closing-sound (Contacting t) = tt
   closing-sound Open = (first-ok, λ i. refl)
   closing-sound (Lost t) = tt
   closing-sound (Ending t) = tt
 
-  judged-sound : (l : Limits) (ph : Phase) (v : ℕ) → NextSound n ph (judged l v)
-  judged-sound l ph v = judged-case (NextSound n ph) l v (refl, λ i. refl) (first-ok, λ i. refl)
+  judged-sound : (ph : Phase) (v : ℕ) → NextSound l ph (judged l v)
+  judged-sound ph v = judged-case (NextSound l ph) l v (refl, λ i. refl) (first-ok, λ i. refl)
 
-  row-sound : (l : Limits) (ph : Phase) (v : ℕ) → All (λ c. NextSound n ph (play n l ph v c)) (table ph)
-  row-sound l (Connecting t) v =
+  row-sound : (ph : Phase) (v : ℕ) → All (λ c. NextSound l ph (play l ph v c)) (table ph)
+  row-sound (Connecting t) v =
       (tt, ((first-ok, λ i. true-false false i refl), (tt, (again-sound 21 (Connecting t), (tt, (tt, tt))))))
-  row-sound l (Contacting t) v =
-      (tt, (tt, (tt, (again-sound 155 (Contacting t), (judged-sound l (Contacting t) v, (tt, tt))))))
-  row-sound l Open v = (closing-sound Open, (tt, ((first-ok, λ i. refl), (tt, (tt, (tt, tt))))))
-  row-sound l (Lost t) v = (tt, ((refl, λ i. refl), (tt, (again-sound 21 (Lost t), (tt, (tt, tt))))))
-  row-sound l (Ending t) v = (tt, (tt, (tt, (again-sound 156 (Ending t), (tt, (tt, tt))))))
+  row-sound (Contacting t) v =
+      (tt, (tt, (tt, (again-sound 155 (Contacting t), (judged-sound (Contacting t) v, (tt, tt))))))
+  row-sound Open v = (closing-sound Open, (tt, ((first-ok, λ i. refl), (tt, (tt, (tt, tt))))))
+  row-sound (Lost t) v = (tt, ((refl, λ i. refl), (tt, (again-sound 21 (Lost t), (tt, (tt, tt))))))
+  row-sound (Ending t) v = (tt, (tt, (tt, (again-sound 156 (Ending t), (tt, (tt, tt))))))
 
   -- a turn leads to a sound phase, and keeps "Connecting and Contacting are outgoing"
   -- promise
-  pub turn-sound : (l : Limits) (ph : Phase) (e : PartnerEvent) → NextSound n ph (turn n l ph e)
-  turn-sound l = by-row (NextSound n) n l (row-sound l) (λ ph. tt)
+  pub turn-sound : (ph : Phase) (e : PartnerEvent) → NextSound l ph (turn l ph e)
+  turn-sound = by-row (NextSound l) l row-sound (λ ph. tt)
 
 -- a turn has at most two actions
 pub turn-few : (t : Turn) → length (numbers t) ≤ 2
@@ -108,26 +109,26 @@ direction-next Incoming ph q p ok keeps =
     and-both (isRbc p) (fitsIncoming q) (and-left (isRbc p) (fitsIncoming ph) ok) (keeps (and-right (isRbc p) (fitsIncoming ph) ok))
 
 -- a sound place after a turn that keeps to the phases is sound
-after-sound : (n : ℕ) (d : Direction) (ph : Phase) (p : Partner) (t : Turn)
-    → placeOk n (seat d ph p) ≡ true
-    → NextSound n ph t
-    → placeOk n (placeAfter (seat d ph p) t) ≡ true
-after-sound n d ph p t ok = by t
+after-sound : (l : Limits) (d : Direction) (ph : Phase) (p : Partner) (t : Turn)
+    → placeOk l (seat d ph p) ≡ true
+    → NextSound l ph t
+    → placeOk l (placeAfter (seat d ph p) t) ≡ true
+after-sound l d ph p t ok = by t
   where
-    partner : partnerOk p ≡ true
-    partner = and-left (partnerOk p) (phaseOk n ph && fits d ph p) ok
+    partner : namedOk p ≡ true
+    partner = and-left (namedOk p) (phaseOk l ph && fits d ph p) ok
 
     direction : fits d ph p ≡ true
-    direction = and-right (phaseOk n ph) (fits d ph p) (and-right (partnerOk p) (phaseOk n ph && fits d ph p) ok)
+    direction = and-right (phaseOk l ph) (fits d ph p) (and-right (namedOk p) (phaseOk l ph && fits d ph p) ok)
 
     next : (q : Phase)
-        → (phaseOk n q ≡ true) × (fitsIncoming ph ≡ true → fitsIncoming q ≡ true)
-        → placeOk n (seat d q p) ≡ true
+        → (phaseOk l q ≡ true) × (fitsIncoming ph ≡ true → fitsIncoming q ≡ true)
+        → placeOk l (seat d q p) ≡ true
     next q sound =
-        and-both (partnerOk p) (phaseOk n q && fits d q p) partner
-        (and-both (phaseOk n q) (fits d q p) (sound .0) (direction-next d ph q p direction (sound .1)))
+        and-both (namedOk p) (phaseOk l q && fits d q p) partner
+        (and-both (phaseOk l q) (fits d q p) (sound .0) (direction-next d ph q p direction (sound .1)))
 
-    by : (t : Turn) → NextSound n ph t → placeOk n (placeAfter (seat d ph p) t) ≡ true
+    by : (t : Turn) → NextSound l ph t → placeOk l (placeAfter (seat d ph p) t) ≡ true
     by Stays sound = ok
     by Released sound = refl
     by (Becomes q) sound = next q sound
@@ -135,24 +136,24 @@ after-sound n d ph p t ok = by t
     by (SendsBoth first second q) sound = next q sound
 
 -- a sound place stays sound after an event that names its partner
-pub event-sound : (n : ℕ)
-    → 1 ≤ n
-    → (l : Limits) (k : Holding) (e : PartnerEvent)
-    → holdingOk n k ≡ true
-    → placeOk n (placeAfter (record { holding = k }) (holdingTurn n l k e)) ≡ true
-event-sound n some-try l Free e ok = refl
-event-sound n some-try l (Held d ph p) e ok = after-sound n d ph p (turn n l ph e) ok (turn-sound n some-try l ph e)
+pub event-sound : (l : Limits)
+    → 1 ≤ l .tries
+    → (k : Holding) (e : PartnerEvent)
+    → holdingOk l k ≡ true
+    → placeOk l (placeAfter (record { holding = k }) (holdingTurn l k e)) ≡ true
+event-sound l some-try Free e ok = refl
+event-sound l some-try (Held d ph p) e ok = after-sound l d ph p (turn l ph e) ok (turn-sound l some-try ph e)
 
 -- and after a closing
-pub closedBy-sound : (n : ℕ)
-    → 1 ≤ n
+pub closedBy-sound : (l : Limits)
+    → 1 ≤ l .tries
     → (which : Closing) (k : Holding)
-    → holdingOk n k ≡ true
-    → placeOk n (placeAfter (record { holding = k }) (holdingClosedBy which k)) ≡ true
-closedBy-sound n some-try which Free ok = refl
-closedBy-sound n some-try which (Held d ph p) ok =
-    cond-holds (λ t. placeOk n (placeAfter (seat d ph p) t) ≡ true) (closes which ph p) (closing ph) Stays
-    (after-sound n d ph p (closing ph) ok (closing-sound n some-try ph))
+    → holdingOk l k ≡ true
+    → placeOk l (placeAfter (record { holding = k }) (holdingClosedBy which k)) ≡ true
+closedBy-sound l some-try which Free ok = refl
+closedBy-sound l some-try which (Held d ph p) ok =
+    cond-holds (λ t. placeOk l (placeAfter (seat d ph p) t) ≡ true) (closes which ph p) (closing ph) Stays
+    (after-sound l d ph p (closing ph) ok (closing-sound l some-try ph))
     ok
 
 -- "Direction never changes while the place is held", nor does the partner

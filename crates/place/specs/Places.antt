@@ -1,10 +1,10 @@
 -- Document 01, "What the box remembers", the part on one place.
--- Defines: phaseNumber, tries, directionNumber, tryLimit, vacant, seat, onHolding, isFree, partnerOf, heldPhase, holds, phaseOk, fitsIncoming,
+-- Defines: phaseNumber, tries, directionNumber, mostTries, defaultTries, fleetTries, vacant, seat, onHolding, isFree, partnerOf, heldPhase, holds, triesOk, phaseOk, fitsIncoming,
 -- fits, placeOk.
 use Prim.Native.Nat.{ℕ}
 use mathlib.Core.Bool.{Bool, true, false, _&&_}
 use lib.Dec.{leb}
-use Rattle.record.specs.Partners.{isRbc, partnerOk, samePartner}
+use Rattle.record.specs.Partners.{isRbc, namedOk, samePartner}
 use Rattle.record.specs.declared.partner.Partner.{Partner}
 use Rattle.place.specs.declared.phase.Phase.{Phase}
 use Rattle.place.specs.declared.phase.Phase.the-variants.{Connecting, Contacting, Open, Lost, Ending}
@@ -13,6 +13,7 @@ use Rattle.place.specs.declared.place.Direction.the-variants.{Outgoing, 
 use Rattle.place.specs.declared.place.Holding.{Holding}
 use Rattle.place.specs.declared.place.Holding.the-variants.{Free, Held}
 use Rattle.place.specs.declared.place.Place.{Place}
+use Rattle.place.specs.declared.limits.Limits.{Limits}
 
 -- "Phases: 1 Connecting, 2 Contacting, 3 Open, 4 Lost, 5 Ending"
 abbrev pub phaseNumber : Phase → ℕ
@@ -22,7 +23,7 @@ phaseNumber Open = 3
 phaseNumber (Lost t) = 4
 phaseNumber (Ending t) = 5
 
--- "Tries: 1 to 3, but 0 in Open"
+-- "Tries: 1 to 3, but 0 in Open", and of Q-3 1 to n
 abbrev pub tries : Phase → ℕ
 tries (Connecting t) = t
 tries (Contacting t) = t
@@ -35,9 +36,17 @@ abbrev pub directionNumber : Direction → ℕ
 directionNumber Outgoing = 0
 directionNumber Incoming = 1
 
--- "The limit of three tries is ours": put in for the n of the definitions, here and nowhere else
-abbrev pub tryLimit : ℕ
-tryLimit = 3
+-- Q-3: "a number of tries n, 1 to 9": the largest
+abbrev pub mostTries : ℕ
+mostTries = 9
+
+-- Q-3: "Where no number is given the default was 3 and becomes 5"
+abbrev pub defaultTries : ℕ
+defaultTries = 5
+
+-- Q-3: "The fitted fleets, `sheet` and all cases of 01 relied on 3"; what a refused cold start or image read holds
+abbrev pub fleetTries : ℕ
+fleetTries = 3
 
 -- a free place
 abbrev pub vacant : Place
@@ -68,13 +77,17 @@ heldPhase place = onHolding Open (λ d ph p. ph) (place .holding)
 abbrev pub holds : Partner → Place → Bool
 holds p place = onHolding false (λ d ph q. samePartner p q) (place .holding)
 
--- the tries used are in their range, n being the limit
-abbrev pub phaseOk : ℕ → Phase → Bool
-phaseOk n (Connecting t) = leb 1 t && leb t n
-phaseOk n (Contacting t) = leb 1 t && leb t n
-phaseOk n Open = true
-phaseOk n (Lost t) = leb 1 t && leb t n
-phaseOk n (Ending t) = leb 1 t && leb t n
+-- Q-3: "tries run from 1 to n"
+abbrev pub triesOk : Limits → ℕ → Bool
+triesOk l t = leb 1 t && leb t (l .tries)
+
+-- the tries used are in their range
+abbrev pub phaseOk : Limits → Phase → Bool
+phaseOk l (Connecting t) = triesOk l t
+phaseOk l (Contacting t) = triesOk l t
+phaseOk l Open = true
+phaseOk l (Lost t) = triesOk l t
+phaseOk l (Ending t) = triesOk l t
 
 -- "Connecting and Contacting are outgoing": the phases that an incoming place may have
 abbrev pub fitsIncoming : Phase → Bool
@@ -89,6 +102,6 @@ abbrev pub fits : Direction → Phase → Partner → Bool
 fits Outgoing ph p = true
 fits Incoming ph p = isRbc p && fitsIncoming ph
 
--- the place is sound by itself
-abbrev pub placeOk : ℕ → Place → Bool
-placeOk n place = onHolding true (λ d ph p. partnerOk p && (phaseOk n ph && fits d ph p)) (place .holding)
+-- the place is sound by itself; Q-2: "No RBC in a place .. may have that value"
+abbrev pub placeOk : Limits → Place → Bool
+placeOk l place = onHolding true (λ d ph p. namedOk p && (phaseOk l ph && fits d ph p)) (place .holding)

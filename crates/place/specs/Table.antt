@@ -116,9 +116,9 @@ withTries (Ending t) u = Ending u
 abbrev pub oneMore : Phase → Phase
 oneMore ph = withTries ph (tries ph + 1)
 
--- "Timeout gives the action shown and one more try while tries are 1 or 2; at 3 it gives 22 and frees the place": while fewer than n were used
-abbrev pub again : ℕ → ℕ → Phase → Turn
-again n number ph = cond (ltb (tries ph) n) (Sends number (oneMore ph)) Released
+-- "Timeout gives the action shown and one more try while tries are 1 or 2; at 3 it gives 22 and frees the place"; Q-3: while fewer than n were used
+abbrev pub again : Limits → ℕ → Phase → Turn
+again l number ph = cond (ltb (tries ph) (l .tries)) (Sends number (oneMore ph)) Released
 
 -- the version that an event carries
 abbrev pub versionOf : PartnerEvent → ℕ
@@ -129,19 +129,19 @@ versionOf Timeout = 0
 versionOf (Version v) = v
 versionOf Ended = 0
 
--- what a cell makes of a phase, n being the limit of tries
-abbrev pub play : ℕ → Limits → Phase → ℕ → Cell → Turn
-play n l ph version refuse = Stays
-play n l ph version close = closing ph
-play n l ph version free = Released
-play n l ph version (turnTo number next) = Sends number next
-play n l ph version (become next) = Becomes next
-play n l ph version (retry number) = again n number ph
-play n l ph version judge = judged l version
+-- what a cell makes of a phase
+abbrev pub play : Limits → Phase → ℕ → Cell → Turn
+play l ph version refuse = Stays
+play l ph version close = closing ph
+play l ph version free = Released
+play l ph version (turnTo number next) = Sends number next
+play l ph version (become next) = Becomes next
+play l ph version (retry number) = again l number ph
+play l ph version judge = judged l version
 
 -- what an event makes of a phase
-unfoldable pub turn : ℕ → Limits → Phase → PartnerEvent → Turn
-turn n l ph e = play n l ph (versionOf e) (cell ph e)
+unfoldable pub turn : Limits → Phase → PartnerEvent → Turn
+turn l ph e = play l ph (versionOf e) (cell ph e)
 
 -- what is said of a turn that lets the place stay, of a release, and of one that leads to another phase with these actions
 abbrev pub onTurn {ℓ} : {A : Type ℓ} → A → A → (List ℕ → Phase → A) → Turn → A

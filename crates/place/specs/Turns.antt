@@ -6,6 +6,7 @@ use Rattle.place.specs.declared.phase.Phase.the-variants.{Connecting, Co
 use Rattle.place.specs.declared.place.Direction.{Direction}
 use Rattle.place.specs.declared.place.Holding.{Holding}
 use Rattle.place.specs.declared.place.Holding.the-variants.{Free, Held}
+use Rattle.place.specs.declared.limits.Limits.{Limits}
 use Rattle.place.specs.declared.turn.Turn.{Turn}
 use Prim.Native.Nat.{ℕ, _+_}
 use mathlib.Core.Bool.{Bool, true, cond, _&&_, _||_}
@@ -37,8 +38,8 @@ abbrev pub fresh : Phase → Phase → Bool
 fresh ph q = cond (eqb (phaseNumber ph) (phaseNumber q)) (eqb (tries q) (tries ph + 1)) (eqb (tries q) (firstTries q))
 
 -- the next phase is sound, and fit for an incoming place where the phase was
-abbrev pub NextSound : ℕ → Phase → Turn → Type 0
-NextSound n ph = onNext (λ q. (phaseOk n q ≡ true) × (fitsIncoming ph ≡ true → fitsIncoming q ≡ true))
+abbrev pub NextSound : Limits → Phase → Turn → Type 0
+NextSound l ph = onNext (λ q. (phaseOk l q ≡ true) × (fitsIncoming ph ≡ true → fitsIncoming q ≡ true))
 
 -- free, or held by this partner in this direction
 abbrev pub SeatOf : Direction → Partner → Holding → Type 0

@@ -1,8 +1,9 @@
 // The phases of a held place: their numbers, tries and ranges.
 ghost use mathlib.Core.Path.{_≡_};
-ghost use Rattle.place.specs.Places.{phaseNumber, tries, tryLimit, phaseOk, fitsIncoming};
+ghost use Rattle.place.specs.Places.{phaseNumber, tries, triesOk, phaseOk, fitsIncoming};
 ghost use Rattle.place.specs.Table.{withTries, inSession, notEnding};
 ghost use Rattle.place.specs.Cells.{rowNumber};
+use crate::limits::Limits;
 use wire::join::and;
 
 // The phase of a held place, with the tries used; an open one has none.
@@ -14,10 +15,15 @@ pub enum Phase {
     Ending(u8),
 }
 
-// The limit of tries, and the first.
-pub const TRY_LIMIT: u8 = 3;
-
+// The first try in a phase.
 pub const FIRST_TRY: u8 = 1;
+
+// Whether so many tries are in their range.
+fn tried(tries: u8, limits: Limits) -> bool
+    ensures { λ r. ⌜ r ≡ triesOk limits tries ⌝ }
+{
+    and(FIRST_TRY <= tries, tries <= limits.tries)
+}
 
 impl Phase {
     // Its number, 1 to 5.
@@ -99,15 +105,15 @@ impl Phase {
     }
 
     // Whether the tries used are in their range.
-    pub(crate) fn in_range(self) -> bool
-        ensures { λ r. ⌜ r ≡ phaseOk tryLimit self ⌝ }
+    pub(crate) fn in_range(self, limits: Limits) -> bool
+        ensures { λ r. ⌜ r ≡ phaseOk limits self ⌝ }
     {
         match self {
-            Phase::Connecting(t) => and(1 <= t, t <= TRY_LIMIT),
-            Phase::Contacting(t) => and(1 <= t, t <= TRY_LIMIT),
+            Phase::Connecting(t) => tried(t, limits),
+            Phase::Contacting(t) => tried(t, limits),
             Phase::Open => true,
-            Phase::Lost(t) => and(1 <= t, t <= TRY_LIMIT),
-            Phase::Ending(t) => and(1 <= t, t <= TRY_LIMIT),
+            Phase::Lost(t) => tried(t, limits),
+            Phase::Ending(t) => tried(t, limits),
         }
     }
 

@@ -1,7 +1,8 @@
 // Places: free, or a partner with its direction and phase.
 ghost use mathlib.Core.Path.{_≡_};
-ghost use Rattle.place.specs.Places.{directionNumber, tryLimit, vacant, seat, isFree, partnerOf, heldPhase, holds, fits, placeOk};
+ghost use Rattle.place.specs.Places.{directionNumber, vacant, seat, isFree, partnerOf, heldPhase, holds, fits, placeOk};
 ghost use Rattle.place.specs.Table.{inPhase, placeAfter, closes, closedBy};
+use crate::limits::Limits;
 use crate::phase::Phase;
 use crate::turn::Closing;
 use crate::turn::Turn;
@@ -152,9 +153,9 @@ impl Place {
         }
     }
 
-    // Whether it is sound by itself.
-    pub fn is_sound(self) -> bool
-        ensures { λ r. ⌜ r ≡ placeOk tryLimit self ⌝ }
+    // Whether it is sound by itself: its tries by the limits, its partner one that may have a place.
+    pub fn is_sound(self, limits: Limits) -> bool
+        ensures { λ r. ⌜ r ≡ placeOk limits self ⌝ }
     {
         let holding = self.holding;
         match holding {
@@ -165,8 +166,8 @@ impl Place {
                 partner,
             } => {
                 and(
-                    partner.in_range(),
-                    and(phase.in_range(), direction.fits(phase, partner)),
+                    partner.can_be_named(),
+                    and(phase.in_range(limits), direction.fits(phase, partner)),
                 )
             }
         }

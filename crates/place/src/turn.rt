@@ -1,6 +1,5 @@
 // Turns of a place: what an event or a closing makes of it.
 ghost use mathlib.Core.Path.{_≡_};
-ghost use Rattle.place.specs.Places.{tryLimit};
 ghost use Rattle.place.specs.Table.{cell, closing, column, judged, again, play, turn, versionOf, takes};
 ghost use Rattle.place.specs.Cells.{cellOf};
 use crate::action::ESTABLISHED;
@@ -11,7 +10,6 @@ use crate::action::TERMINATE;
 use crate::limits::Limits;
 use crate::phase::FIRST_TRY;
 use crate::phase::Phase;
-use crate::phase::TRY_LIMIT;
 use crate::table::CLOSE;
 use crate::table::CONTACT;
 use crate::table::FREE;
@@ -23,7 +21,6 @@ use crate::table::REQUEST_AGAIN;
 use crate::table::TERMINATE_AGAIN;
 use crate::table::cell_at;
 use record::event::PartnerEvent;
-use wire::byte::word;
 use wire::join::and;
 
 // Versions of one X.
@@ -99,7 +96,7 @@ fn version_of(event: PartnerEvent) -> u8
 fn judge(version: u8, limits: Limits) -> Turn
     ensures { λ r. ⌜ r ≡ judged limits version ⌝ }
 {
-    let x = word(version / VERSIONS_OF_X);
+    let x = version / VERSIONS_OF_X;
     if and(limits.lowest <= x, x <= limits.highest) {
         Turn::Sends {
             number: ESTABLISHED,
@@ -132,11 +129,11 @@ impl Phase {
     }
 
     // One more try while fewer than the limit were used; else a release.
-    fn again(self, number: u8) -> Turn
-        ensures { λ r. ⌜ r ≡ again tryLimit number self ⌝ }
+    fn again(self, number: u8, limits: Limits) -> Turn
+        ensures { λ r. ⌜ r ≡ again limits number self ⌝ }
     {
         let used = self.tries();
-        if used < TRY_LIMIT {
+        if used < limits.tries {
             Turn::Sends {
                 number,
                 phase: self.with_tries(used + 1),
@@ -155,7 +152,7 @@ impl Phase {
 
     // What a cell makes of this phase.
     fn play(self, choice: u8, version: u8, limits: Limits) -> Turn
-        ensures { λ r. ⌜ r ≡ play tryLimit limits self version (cellOf choice) ⌝ }
+        ensures { λ r. ⌜ r ≡ play limits self version (cellOf choice) ⌝ }
     {
         match choice {
             CLOSE => self.closing(),
@@ -169,9 +166,9 @@ impl Phase {
                 phase: Phase::Lost(FIRST_TRY),
             },
             REOPEN => Turn::Becomes(Phase::Open),
-            REQUEST_AGAIN => self.again(REQUEST),
-            INITIATE_AGAIN => self.again(INITIATE),
-            TERMINATE_AGAIN => self.again(TERMINATE),
+            REQUEST_AGAIN => self.again(REQUEST, limits),
+            INITIATE_AGAIN => self.again(INITIATE, limits),
+            TERMINATE_AGAIN => self.again(TERMINATE, limits),
             JUDGE => judge(version, limits),
             _ => Turn::Stays,
         }
@@ -179,7 +176,7 @@ impl Phase {
 
     // What an event makes of this phase.
     pub fn turn(self, event: PartnerEvent, limits: Limits) -> Turn
-        ensures { λ r. ⌜ r ≡ turn tryLimit limits self event ⌝ }
+        ensures { λ r. ⌜ r ≡ turn limits self event ⌝ }
     {
         self.play(self.choice(event), version_of(event), limits)
     }

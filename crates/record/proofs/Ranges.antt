@@ -8,7 +8,7 @@ use native.Mathlib.Omega.{arith}
 use lib.Dec.{eqb, leb, ltb}
 use lib.ListN.{length}
 use borrow.Author.Tests.{leb-true}
-use Rattle.record.specs.Partners.{partnerOk}
+use Rattle.record.specs.Partners.{partnerOk, namedOk}
 use Rattle.record.specs.Records.{reading, readingNumber, Body, bodies, bodyOf, noBody, partnerBody, causes, partnerIn, known, lengthOf, highestLevel, messageVersion, messageCall, messageEnded, highestVersion, messageOk, messageMeans, partnerEventOk, eventOk, readingOk}
 use Rattle.wire.specs.Bytes.{byte, bit}
 use Rattle.wire.specs.Refusals.{wrongLength, unknownKind, outOfRange}
@@ -28,10 +28,10 @@ abbrev Ranged : Body → Type 0
 Ranged body = (s : List ℕ) → body .ranges s ≡ true → eventOk (body .means s) ≡ true
 
 partner-ranged : (e : PartnerEvent) → partnerEventOk e ≡ true → Ranged (partnerBody e)
-partner-ranged e h s ok = and-both (partnerOk (partnerIn s)) (partnerEventOk e) ok h
+partner-ranged e h s ok = and-both (namedOk (partnerIn s)) (partnerEventOk e) ok h
 
 message-ranged : (number version : ℕ) (p : Partner)
-    → partnerOk p ≡ true
+    → namedOk p ≡ true
     → messageOk number version ≡ true
     → eventOk (messageMeans number version p) ≡ true
 message-ranged number version p ok h = by (eqb number messageVersion) (eqb number messageCall) (eqb number messageEnded) h
@@ -39,9 +39,9 @@ message-ranged number version p ok h = by (eqb number messageVersion) (eqb numbe
     by : (a b c : Bool)
         → cond a (leb version highestVersion) ((b || c) && eqb version 0) ≡ true
         → eventOk (cond a (Named p (Version version)) (cond b (Call p) (Named p Ended))) ≡ true
-    by true b c h = and-both (partnerOk p) (leb version highestVersion) ok h
+    by true b c h = and-both (namedOk p) (leb version highestVersion) ok h
     by false true c h = ok
-    by false false c h = and-both (partnerOk p) true ok refl
+    by false false c h = and-both (namedOk p) true ok refl
 
 bodies-ranged : (kind : ℕ) → Ranged (bodyOf kind)
 bodies-ranged =
@@ -70,8 +70,8 @@ bodies-ranged =
                           (
                             λ s ok.
                                 message-ranged (byte s 5) (byte s 6) (partnerIn s)
-                                (and-left (partnerOk (partnerIn s)) (messageOk (byte s 5) (byte s 6)) ok)
-                                (and-right (partnerOk (partnerIn s)) (messageOk (byte s 5) (byte s 6)) ok),
+                                (and-left (namedOk (partnerIn s)) (messageOk (byte s 5) (byte s 6)) ok)
+                                (and-right (namedOk (partnerIn s)) (messageOk (byte s 5) (byte s 6)) ok),
                             tt,
                           ),
                         ),

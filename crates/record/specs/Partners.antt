@@ -1,7 +1,7 @@
--- Document 01, "What the box remembers", the part on a partner.
--- Defines: rbc, riu, isRbc, partnerOk, samePartner.
-use Prim.Native.Nat.{ℕ}
-use mathlib.Core.Bool.{Bool, _&&_}
+-- Document 01, "What the box remembers", the part on a partner; and the number that request Q-2 gives a meaning.
+-- Defines: rbc, riu, isRbc, partnerOk, samePartner, nidRbc, reservedNumber, reserved, namedOk.
+use Prim.Native.Nat.{ℕ, _+_, _*_, _%_}
+use mathlib.Core.Bool.{Bool, _&&_, not}
 use lib.Dec.{eqb, leb}
 use Rattle.record.specs.declared.partner.Partner.{Partner}
 
@@ -23,3 +23,19 @@ partnerOk p = leb (p .kind) riu
 -- "same number with another type is another partner"
 abbrev pub samePartner : Partner → Partner → Bool
 samePartner p q = eqb (p .kind) (q .kind) && (eqb (p .high) (q .high) && (eqb (p .middle) (q .middle) && eqb (p .low) (q .low)))
+
+-- "NID_C, 10 bits, then NID_RBC, 14 bits": the low 14 bits of the number
+abbrev pub nidRbc : Partner → ℕ
+nidRbc p = p .middle % 64 * 256 + p .low
+
+-- Q-2: "Subset-026 chapter 7 gives NID_RBC 16,383 the meaning 'contact last known RBC'"
+abbrev pub reservedNumber : ℕ
+reservedNumber = 16_383
+
+-- an RBC with that number, whatever its upper 10 bits
+abbrev pub reserved : Partner → Bool
+reserved p = isRbc p && eqb (nidRbc p) reservedNumber
+
+-- a partner of a place or of an event other than an order: "No RBC in a place or in another event may have that value"
+abbrev pub namedOk : Partner → Bool
+namedOk p = partnerOk p && not (reserved p)

@@ -8,7 +8,7 @@ use mathlib.Core.Bool.{Bool, true, false, cond, _&&_, _||_}
 use mathlib.Core.List.{List, [], _∷_}
 use lib.Dec.{eqb, leb, ltb}
 use lib.ListN.{length, getD}
-use Rattle.record.specs.Partners.{partnerOk}
+use Rattle.record.specs.Partners.{partnerOk, namedOk}
 use Rattle.wire.specs.Bytes.{byte, bit, flag}
 use Rattle.wire.specs.Refusals.{wrongLength, unknownKind, outOfRange, accepted}
 use Rattle.record.specs.declared.partner.Partner.{Partner}
@@ -120,9 +120,9 @@ orderBody =
       means = λ s. orderMeans (partnerIn s) (byte s 5) (byte s 6);
     }
 
--- kinds 6, 8, 9, 10: partner
+-- kinds 6, 8, 9, 10: partner; Q-2: "3 for other events that name it"
 abbrev pub partnerBody : PartnerEvent → Body
-partnerBody e = record { ranges = λ s. partnerOk (partnerIn s); means = λ s. Named (partnerIn s) e }
+partnerBody e = record { ranges = λ s. namedOk (partnerIn s); means = λ s. Named (partnerIn s) e }
 
 -- kind 7: 0 desk closed, 1 error
 abbrev pub endAllBody : Body
@@ -142,7 +142,7 @@ messageMeans number version p =
 abbrev pub messageBody : Body
 messageBody =
     record {
-      ranges = λ s. partnerOk (partnerIn s) && messageOk (byte s 5) (byte s 6);
+      ranges = λ s. namedOk (partnerIn s) && messageOk (byte s 5) (byte s 6);
       means = λ s. messageMeans (byte s 5) (byte s 6) (partnerIn s);
     }
 
@@ -203,8 +203,8 @@ eventOk Mode = true
 eventOk (Hole entered) = true
 eventOk (Order p accepting cause) = partnerOk p
 eventOk EndAll = true
-eventOk (Call p) = partnerOk p
-eventOk (Named p e) = partnerOk p && partnerEventOk e
+eventOk (Call p) = namedOk p
+eventOk (Named p e) = namedOk p && partnerEventOk e
 
 -- what a reading may be: an event in its ranges, or refusal 1, 2 or 3
 abbrev pub readingOk : Reading → Bool

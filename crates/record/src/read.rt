@@ -3,7 +3,7 @@ ghost use mathlib.Core.Path.{_≡_};
 ghost use Prim.Native.Nat.{_≤_};
 ghost use mathlib.Core.Bool.{cond, _&&_};
 ghost use lib.ListN.{length};
-ghost use Rattle.record.specs.Partners.{partnerOk};
+ghost use Rattle.record.specs.Partners.{namedOk};
 ghost use Rattle.record.specs.Records.{lengthOf, partnerIn, causeOf, orderOk, orderMeans, messageOk, messageMeans, fields};
 ghost use Rattle.record.specs.Records.{bodyOf, levelBody, missionBody, holeBody, orderBody, partnerBody, endAllBody, messageBody, reading};
 ghost use Rattle.wire.specs.Refusals.{outOfRange};
@@ -177,7 +177,7 @@ fn partner_body(s: &[u8], event: PartnerEvent) -> Reading
     ensures { λ r. ⌜ r ≡ fields (partnerBody event) (now (s .entry)) ⌝ }
 {
     let partner = partner_in(s);
-    within(partner.in_range(), Event::Named { partner, event })
+    within(partner.can_be_named(), Event::Named { partner, event })
 }
 
 fn end_all_body(s: &[u8]) -> Reading
@@ -190,13 +190,13 @@ fn end_all_body(s: &[u8]) -> Reading
 fn message_of(partner: Partner, number: u8, version: u8) -> Reading
     ensures { λ r.
         ⌜ r
-        ≡ cond (partnerOk partner && messageOk number version) (Reading.Meant (messageMeans number version partner))
+        ≡ cond (namedOk partner && messageOk number version) (Reading.Meant (messageMeans number version partner))
         (Reading.Refused outOfRange) ⌝ }
 {
-    let known = partner.in_range();
+    let nameable = partner.can_be_named();
     if number == MESSAGE_VERSION {
         return within(
-            and(known, version <= HIGHEST_VERSION),
+            and(nameable, version <= HIGHEST_VERSION),
             Event::Named {
                 partner,
                 event: PartnerEvent::Version(version),
@@ -204,10 +204,10 @@ fn message_of(partner: Partner, number: u8, version: u8) -> Reading
         );
     }
     if number == MESSAGE_CALL {
-        return within(and(known, version == 0), Event::Call { partner });
+        return within(and(nameable, version == 0), Event::Call { partner });
     }
     within(
-        and(known, and(number == MESSAGE_ENDED, version == 0)),
+        and(nameable, and(number == MESSAGE_ENDED, version == 0)),
         Event::Named {
             partner,
             event: PartnerEvent::Ended,

@@ -1,6 +1,7 @@
-// Prints what a run over the log on standard input answers, from a cold start with X from 1 to 2 and a budget that no log uses up.
+// Prints what a run over the log on standard input answers, from a cold start with X from 1 to 2, three tries and a budget that no log uses up.
 use libc::STDIN_FILENO;
 use libc::STDOUT_FILENO;
+use place::limits::FLEET_TRIES;
 use place::limits::Limits;
 use unit::run::Report;
 use unit::run::Totals;
@@ -48,6 +49,7 @@ fn report_on(room: &mut [u8]) {
     let start = cold_start(Limits {
         lowest: 1,
         highest: 2,
+        tries: FLEET_TRIES,
     });
     print(run(start.state, &room[..n], usize::MAX));
 }

@@ -2,6 +2,7 @@
 // the actions, and then the buffer's bytes as they are. Of a log over 1,048,576 bytes it reads as many.
 use libc::STDIN_FILENO;
 use libc::STDOUT_FILENO;
+use place::limits::FLEET_TRIES;
 use place::limits::Limits;
 use record::take::Taken;
 use record::take::take;
@@ -69,6 +70,7 @@ fn through(log: &[u8], actions: &mut [u8]) -> Walk {
     let start = cold_start(Limits {
         lowest: 1,
         highest: 2,
+        tries: FLEET_TRIES,
     });
     let state = start.state;
     let mut so_far = Walk {

@@ -9,7 +9,6 @@ use lib.ListN.{length, take, drop, length-drop}
 use lib.Seq.{drop-drop, length-take-le}
 use borrow.Rule.Slice.PartMut.{putMid}
 use Rattle.wire.specs.Bytes.{byte}
-use Rattle.place.specs.Places.{tryLimit}
 use Rattle.unit.specs.Forms.{packed}
 use Rattle.unit.specs.OnRecords.{actionRoom, applied, onRecord}
 use Rattle.record.specs.Takes.{nothingLeft, longestLog, takeOne}
@@ -35,10 +34,10 @@ pub next-room : (p : Page) (bytes : List ℕ) → length (nextLine p bytes) ≤ 
 unfolding nextLine
 next-room p bytes =
     let o = given p bytes in
-    line-room (p .number + 1) (byte bytes 0) (o .code) (o .actions) (onRecord-few tryLimit (p .state) bytes actionRoom)
+    line-room (p .number + 1) (byte bytes 0) (o .code) (o .actions) (onRecord-few (p .state) bytes actionRoom)
 
 -- the line that the answer to a record gives, and the sheet with it
-module _ (p : Page) (bytes : List ℕ) (answer : Answer) (made : answer ≡ packed (applied tryLimit (p .state) bytes)) where
+module _ (p : Page) (bytes : List ℕ) (answer : Answer) (made : answer ≡ packed (applied (p .state) bytes)) where
   is-given : answer ≡ packed (given p bytes)
   unfolding onRecord
   is-given = made
@@ -51,7 +50,7 @@ module _ (p : Page) (bytes : List ℕ) (answer : Answer) (made : answer ≡ pack
       let o = given p bytes in
       ap₂ (λ k (a : Answer). lineText (p .number + 1) k (a .code) (take (a .actions .count) (a .actions .items))) first is-given
       ∙ ap (lineText (p .number + 1) (byte bytes 0) (o .code))
-      (listed-take (o .actions) (onRecord-few tryLimit (p .state) bytes actionRoom))
+      (listed-take (o .actions) (onRecord-few (p .state) bytes actionRoom))
 
   -- put after the others
   pub next-put : (kind : ℕ)
@@ -81,32 +80,32 @@ module _ (p : Page) (bytes : List ℕ) (answer : Answer) (made : answer ≡ pack
       record { state = is-given i .state; at = p .at + length bytes; number = p .number + 1; used = p .used + size i }
 
 -- a budget of at least as many records as there are bytes is not used up
-course-stop : (n budget : ℕ) (s : State) (rest : List ℕ) (stop : ℕ)
+course-stop : (budget : ℕ) (s : State) (rest : List ℕ) (stop : ℕ)
     → length rest ≤ budget
     → length rest ≤ longestLog
     → (takeOne rest ≡ Stopped stop) ⊎ (takeOne rest ≡ Refused stop)
-    → course n budget s rest ≡ stops stop
+    → course budget s rest ≡ stops stop
 unfolding course takeOne
-course-stop n zero s [] stop few small (inl e) = let same : nothingLeft ≡ stop = cc in ap stops same
-course-stop n zero s [] stop few small (inr e) = absurd (let z : _≡_ {A = ℕ} 0 1 = cc in omega arith)
-course-stop n zero s (kind ∷ rest) stop few small e = absurd (omega arith)
-course-stop n (suc budget) s rest stop few small (inl e) = rw (taken-short rest small ∙ e) refl
-course-stop n (suc budget) s rest stop few small (inr e) = rw (taken-short rest small ∙ e) refl
+course-stop zero s [] stop few small (inl e) = let same : nothingLeft ≡ stop = cc in ap stops same
+course-stop zero s [] stop few small (inr e) = absurd (let z : _≡_ {A = ℕ} 0 1 = cc in omega arith)
+course-stop zero s (kind ∷ rest) stop few small e = absurd (omega arith)
+course-stop (suc budget) s rest stop few small (inl e) = rw (taken-short rest small ∙ e) refl
+course-stop (suc budget) s rest stop few small (inr e) = rw (taken-short rest small ∙ e) refl
 
-course-step : (n budget : ℕ) (s : State) (rest : List ℕ) (k : ℕ) (r : Reading)
+course-step : (budget : ℕ) (s : State) (rest : List ℕ) (k : ℕ) (r : Reading)
     → 0 < length rest
     → length rest ≤ budget
     → length rest ≤ longestLog
     → takeOne rest ≡ Whole k r
-    → course n budget s rest
-    ≡ applies (take k rest) (onRecord n s (take k rest) actionRoom)
-    (course n (budget - 1) (onRecord n s (take k rest) actionRoom .state) (drop k rest))
+    → course budget s rest
+    ≡ applies (take k rest) (onRecord s (take k rest) actionRoom)
+    (course (budget - 1) (onRecord s (take k rest) actionRoom .state) (drop k rest))
 unfolding course
-course-step n zero s rest k r some few small e = absurd (omega arith)
-course-step n (suc budget) s rest k r some few small e =
+course-step zero s rest k r some few small e = absurd (omega arith)
+course-step (suc budget) s rest k r some few small e =
     let same : budget ≡ suc budget - 1 = omega arith in
-    let o = onRecord n s (take k rest) actionRoom in
-    rw (taken-short rest small ∙ e) (ap (λ b. applies (take k rest) o (course n b (o .state) (drop k rest))) same)
+    let o = onRecord s (take k rest) actionRoom in
+    rw (taken-short rest small ∙ e) (ap (λ b. applies (take k rest) o (course b (o .state) (drop k rest))) same)
 
 -- where a whole record stands, something is left
 whole-some : (rest : List ℕ) (k : ℕ) (r : Reading) → takeOne rest ≡ Whole k r → 0 < length rest
@@ -132,7 +131,7 @@ module _ (p : Page) (input : List ℕ) (short : length input ≤ mostInput) (cou
       → toCome p input ≡ endText stop (p .number)
   unfolding toCome courseText rest
   to-come-stop stop e =
-      ap (courseText (p .number)) (course-stop tryLimit (sheetBudget - p .number) (p .state) rest stop rest-few rest-short e)
+      ap (courseText (p .number)) (course-stop (sheetBudget - p .number) (p .state) rest stop rest-few rest-short e)
 
   module _ (k : ℕ) (r : Reading) (e : takeOne (drop (p .at) input) ≡ Whole k r) where
     below : p .at < length input
@@ -159,6 +158,6 @@ module _ (p : Page) (input : List ℕ) (short : length input ≤ mostInput) (cou
         let left : sheetBudget - p .number - 1 ≡ sheetBudget - (p .number + 1) = omega arith in
         let after = drop-drop k (p .at) input ∙ ap (λ m. drop (p .at + m) input) (sym size) in
         ap (courseText (p .number))
-        (course-step tryLimit (sheetBudget - p .number) (p .state) rest k r (whole-some rest k r e) rest-few rest-short e)
-        ∙ ap₂ (λ b l. nextLine p part ++ courseText (p .number + 1) (course tryLimit b (o .state) l)) left after
+        (course-step (sheetBudget - p .number) (p .state) rest k r (whole-some rest k r e) rest-few rest-short e)
+        ∙ ap₂ (λ b l. nextLine p part ++ courseText (p .number + 1) (course b (o .state) l)) left after
         ∙ ap (λ l. nextLine p l ++ toCome (nextPage p l) input) (sym lent)

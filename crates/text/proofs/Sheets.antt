@@ -11,8 +11,8 @@ use Rattle.wire.specs.Blocks.{blocks}
 use Rattle.wire.specs.Bytes.{byte}
 use Rattle.wire.proofs.Tests.{cond-holds, cond-case}
 use Rattle.record.specs.Records.{reading}
-use Rattle.place.specs.Places.{tryLimit}
 use Rattle.place.specs.Table.{turn}
+use Rattle.unit.specs.Lasts.{recalled}
 use Rattle.unit.specs.States.{first, seek, placesOk, sound, cold, coldStart, some}
 use Rattle.unit.specs.Steps.{closed, closingActions, step}
 use Rattle.unit.specs.OnRecords.{actionRoom, onRecord}
@@ -30,22 +30,22 @@ use Rattle.text.specs.SheetExample.{exampleInput, exampleText}
 use Rattle.text.proofs.Room.{line-room, end-room}
 
 -- the lines of a course, and its last one
-pub course-fits : (n budget : ℕ) (s : State) (log : List ℕ) (read : ℕ)
-    → length (courseText read (course n budget s log)) ≤ textRoom * suc budget
+pub course-fits : (budget : ℕ) (s : State) (log : List ℕ) (read : ℕ)
+    → length (courseText read (course budget s log)) ≤ textRoom * suc budget
 unfolding course courseText
-course-fits n zero s [] read = omega (arith, end-room 0 read)
-course-fits n zero s (kind ∷ rest) read = omega (arith, end-room 1 read)
-course-fits n (suc budget) s log read = by (taken log) (course-fits n budget) refl
+course-fits zero s [] read = omega (arith, end-room 0 read)
+course-fits zero s (kind ∷ rest) read = omega (arith, end-room 1 read)
+course-fits (suc budget) s log read = by (taken log) (course-fits budget) refl
   where
     by : (t : Taken)
-        → ((s : State) (log : List ℕ) (read : ℕ) → length (courseText read (course n budget s log)) ≤ textRoom * suc budget)
+        → ((s : State) (log : List ℕ) (read : ℕ) → length (courseText read (course budget s log)) ≤ textRoom * suc budget)
         → taken log ≡ t
-        → length (courseText read (course n (suc budget) s log)) ≤ textRoom * suc (suc budget)
+        → length (courseText read (course (suc budget) s log)) ≤ textRoom * suc (suc budget)
     by (Stopped stop) rest-fits e = rw e (omega (arith, end-room stop read))
     by (Refused r) rest-fits e = rw e (omega (arith, end-room r read))
     by (Whole k r) rest-fits e =
-        let o = onRecord n s (take k log) actionRoom in
-        let line-fits = line-room (read + 1) (byte (take k log) 0) (o .code) (o .actions) (onRecord-few n s (take k log) actionRoom) in
+        let o = onRecord s (take k log) actionRoom in
+        let line-fits = line-room (read + 1) (byte (take k log) 0) (o .code) (o .actions) (onRecord-few s (take k log) actionRoom) in
         let more = rest-fits (o .state) (drop k log) (read + 1) in
         rw e (simp length-append (omega arith))
 
@@ -53,8 +53,8 @@ course-fits n (suc budget) s log read = by (taken log) (course-fits n budget) re
 pub sheet-fits : (input : List ℕ) → length (sheetText input) ≤ sheetRoom
 unfolding sheetText
 sheet-fits input =
-    let body = courseText 0 (course tryLimit sheetBudget (coldStart sheetLimits .state) input) in
-    let fits = course-fits tryLimit sheetBudget (coldStart sheetLimits .state) input 0 in
+    let body = courseText 0 (course sheetBudget (coldStart sheetLimits .state) input) in
+    let fits = course-fits sheetBudget (coldStart sheetLimits .state) input 0 in
     cond-holds (λ l. length l ≤ sheetRoom) (leb (length input) mostInput) (headerText ++ body) tooLongText
     (simp length-append (omega arith))
     (omega arith)
@@ -70,6 +70,6 @@ count-fits input room r is =
 
 -- promise
 pub sheet-example : sheetText exampleInput ≡ exampleText
-unfolding reading turn first seek placesOk sound cold coldStart closed closingActions step onRecord some taken takeOne course
+unfolding reading turn first seek placesOk sound cold coldStart closed closingActions step onRecord some taken takeOne course recalled
     digits blocks actionText lineText endText courseText sheetText exampleInput exampleText
 sheet-example = refl

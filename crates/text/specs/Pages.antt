@@ -5,7 +5,6 @@ use Prim.Native.Nat.{ℕ, _+_, _*_, _-_, _≤_}
 use mathlib.Core.List.{List, _++_}
 use lib.ListN.{length, take, drop}
 use Rattle.wire.specs.Bytes.{byte}
-use Rattle.place.specs.Places.{tryLimit}
 use Rattle.unit.specs.Steps.{Outcome}
 use Rattle.unit.specs.OnRecords.{actionRoom, onRecord}
 use Rattle.unit.specs.Runs.{course}
@@ -19,7 +18,7 @@ putAt text at buffer = take at buffer ++ (text ++ drop (at + length text) buffer
 
 -- what a record gives, its line, and the sheet with it
 abbrev pub given : Page → List ℕ → Outcome
-given p bytes = onRecord tryLimit (p .state) bytes actionRoom
+given p bytes = onRecord (p .state) bytes actionRoom
 
 unfoldable pub nextLine : Page → List ℕ → List ℕ
 nextLine p bytes = lineText (p .number + 1) (byte bytes 0) (given p bytes .code) (given p bytes .actions)
@@ -35,7 +34,7 @@ nextPage p bytes =
 
 -- the text that is still to come
 unfoldable pub toCome : Page → List ℕ → List ℕ
-toCome p input = courseText (p .number) (course tryLimit (sheetBudget - p .number) (p .state) (drop (p .at) input))
+toCome p input = courseText (p .number) (course (sheetBudget - p .number) (p .state) (drop (p .at) input))
 
 -- every record has a byte, and every line its room: so there is room for the last line
 abbrev pub Ready : Page → List ℕ → Type 0

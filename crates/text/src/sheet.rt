@@ -8,6 +8,7 @@ ghost use Rattle.text.specs.Pages.{putAt, nextLine, nextPage, toCome, Re
 use crate::end_into;
 use crate::line_into;
 use crate::words_into;
+use place::limits::FLEET_TRIES;
 use place::limits::Limits;
 use record::take::Taken;
 use record::take::take_one;
@@ -22,9 +23,9 @@ const MOST_INPUT: usize = 4096;
 pub const SHEET_ROOM: usize = 786_646;
 
 // X 1 to 2.
-const LOWEST_X: u32 = 1;
+const LOWEST_X: u8 = 1;
 
-const HIGHEST_X: u32 = 2;
+const HIGHEST_X: u8 = 2;
 
 // A sheet so far: the state, the offset reached in the input, the records told, and the bytes written.
 struct Page {
@@ -115,6 +116,7 @@ pub fn sheet_into(input: &[u8], buffer: &mut [u8]) -> usize
     let start = cold_start(Limits {
         lowest: LOWEST_X,
         highest: HIGHEST_X,
+        tries: FLEET_TRIES,
     });
     let state = start.state;
     let used = words_into(buffer, b"rec kind code actions\n");

@@ -2,7 +2,9 @@
 -- refused first at the sentence that it breaks.
 pub mod Closings
 pub mod Examples
+pub mod Meant
 pub mod Records
 pub mod Refusals
 pub mod Standings
+pub mod Starts
 pub mod Writing

@@ -5,7 +5,7 @@
 -- `sound-facts` and `facts-sound` (Facts), kept by `onRecord-sound` (Sound), the cold start is `cold-sound` and `cold-vacant` (Starts).
 use mathlib.Core.Path.{_≡_, refl}
 use mathlib.Core.Bool.{true, false, _&&_}
-use mathlib.Core.Logic.{_⊎_, inl, inr}
+use mathlib.Core.Logic.{_⊎_, inl, inr, ⊎-elim}
 use mathlib.Core.List.{List}
 use Prim.Native.Nat.{ℕ, _≤_, _<_}
 use native.Mathlib.Omega.{arith}
@@ -46,7 +46,7 @@ use Rattle.unit.specs.Standings.{Concern, nobody, orderTo, callOf, namin
 use Rattle.unit.specs.OnRecords.{actionRoom, onRecord}
 use Rattle.unit.specs.declared.state.State.{State}
 use Rattle.unit.specs.declared.search.Found.the-variants.{At, Vacant}
-use Rattle.unit.proofs.Shapes.{StepRefusal, RecordRefusal, Shape, refuses, notes, closesEvery, orders, calls, turns, shape, on-record, by-concern}
+use Rattle.unit.proofs.Shapes.{StepRefusal, RecordRefusal, Shape, refuses, notes, closesEvery, orders, calls, turns, shape, on-record, by-concern, step-numbered}
 use Rattle.unit.proofs.Weights.{length-closed, closed-at}
 use Rattle.unit.specs.Kept.{here, weigh}
 use Rattle.unit.proofs.Searches.{found-ok}
@@ -127,24 +127,24 @@ closedBy-effect c which (Held d ph p) =
     by (Ending t) is = tt
 
 -- an event moves one where it stirs
-turn-effect : (n : ℕ) (l : Limits) (p : Partner) (e : PartnerEvent) (k : Holding)
+turn-effect : (l : Limits) (p : Partner) (e : PartnerEvent) (k : Holding)
     → holdsIn p k ≡ true
-    → Effect (naming p e) (record { holding = k }) (placeAfter (record { holding = k }) (holdingTurn n l k e))
+    → Effect (naming p e) (record { holding = k }) (placeAfter (record { holding = k }) (holdingTurn l k e))
 unfolding turn
-turn-effect n l p e Free held = true-false false held refl
-turn-effect n l p e (Held d ph q) held = after-effect (naming p e) d ph q (turn n l ph e) (by ph e)
+turn-effect l p e Free held = true-false false held refl
+turn-effect l p e (Held d ph q) held = after-effect (naming p e) d ph q (turn l ph e) (by ph e)
   where
     same : (samePartner q p && true) ≡ true
     same = and-both (samePartner q p) true (rw (same-eq p q held) (same-refl q)) refl
 
     by : (ph : Phase) (e : PartnerEvent)
         → isConnecting ph ≡ true
-        → onNext (λ next. (samePartner q p && stirring e) ≡ true) (turn n l ph e)
+        → onNext (λ next. (samePartner q p && stirring e) ≡ true) (turn l ph e)
     by (Connecting t) Drop is = tt
     by (Connecting t) Up is = same
     by (Connecting t) Loss is = tt
     by (Connecting t) Timeout is =
-        cond-holds (onNext (λ next. (samePartner q p && true) ≡ true)) (ltb t n) (Sends request (oneMore (Connecting t))) Released
+        cond-holds (onNext (λ next. (samePartner q p && true) ≡ true)) (ltb t (l .tries)) (Sends request (oneMore (Connecting t))) Released
         same
         tt
     by (Connecting t) (Version v) is = tt
@@ -154,7 +154,7 @@ turn-effect n l p e (Held d ph q) held = after-effect (naming p e) d ph q (turn 
     by (Lost t) e is = true-false false is refl
     by (Ending t) e is = true-false false is refl
 
-module _ (n : ℕ) (s : State) where
+module _ (s : State) where
   -- every place of a closing
   closedBy-effects : (c : Concern) (which : Closing) (i : ℕ)
       → Effect c (getD (s .places) i vacant) (getD (closed which (s .places)) i vacant)
@@ -180,10 +180,10 @@ module _ (n : ℕ) (s : State) where
       }
 
   places : {e : Event} {c : Concern} {o : Outcome}
-      → Shape n s e c o
+      → Shape s e c o
       → o .code ≡ refusal.accepted
       → Places c (s .places) (o .state .places)
-  places (refuses r may said) accepted = absurd (omega arith)
+  places (refuses r may said) accepted = absurd (step-numbered r may accepted)
   places (notes t m within) accepted = λ i. stays refl
   places (closesEvery t within) accepted = closedBy-effects nobody Every
   places (orders p which m i within ok found) accepted =
@@ -191,77 +191,75 @@ module _ (n : ℕ) (s : State) where
       (closedBy-effects (orderTo p) which)
   places (calls p i ok rbc found) accepted =
       newcomer (callOf p) p i (seat Incoming Open p) (s .places) found refl (λ j. stays refl)
-  places (turns p event i {ph = ph} found taken) accepted =
+  places (turns p event i {ph = ph} ok found taken) accepted =
       let at = found-ok p (s .places) _ found in
       let place = getD (s .places) i vacant in
-      let next = placeAfter place (holdingTurn n (s .limits) (place .holding) event) in
+      let next = placeAfter place (holdingTurn (s .limits) (place .holding) event) in
       record {
         at = i;
         phase = ph;
         found = found;
         turned =
-            rw (getD-set-same (s .places) i next vacant (at .0)) (turn-effect n (s .limits) p event (place .holding) (at .1));
+            rw (getD-set-same (s .places) i next vacant (at .0)) (turn-effect (s .limits) p event (place .holding) (at .1));
         others = λ j other. getD-set-other (s .places) i j next vacant other;
       }
 
   -- what an accepted step does to each place
   pub step-places : (e : Event)
-      → step n s e .code ≡ refusal.accepted
-      → Places (concern e) (s .places) (step n s e .state .places)
-  step-places e = places (shape n s e)
+      → step s e .code ≡ refusal.accepted
+      → Places (concern (s .last) e) (s .places) (step s e .state .places)
+  step-places e = places (shape s e)
 
   -- and the step on a record
   pub onRecord-places : (bytes : List ℕ) (room : ℕ)
-      → onRecord n s bytes room .code ≡ refusal.accepted
-      → Places (concernOf (reading bytes)) (s .places) (onRecord n s bytes room .state .places)
+      → onRecord s bytes room .code ≡ refusal.accepted
+      → Places (concernOf (s .last) (reading bytes)) (s .places) (onRecord s bytes room .state .places)
   onRecord-places bytes room =
-      by-concern n s (λ c o. o .code ≡ refusal.accepted → Places c (s .places) (o .state .places)) bytes room
+      by-concern s (λ c o. o .code ≡ refusal.accepted → Places c (s .places) (o .state .places)) bytes room
       (λ c r may accepted. absurd (omega arith))
       step-places
 
   -- no step changes the limits
-  pub step-limits : (e : Event) → step n s e .state .limits ≡ s .limits
-  step-limits e = by (shape n s e)
+  pub step-limits : (e : Event) → step s e .state .limits ≡ s .limits
+  step-limits e = by (shape s e)
     where
-      by : {c : Concern} {o : Outcome} → Shape n s e c o → o .state .limits ≡ s .limits
+      by : {c : Concern} {o : Outcome} → Shape s e c o → o .state .limits ≡ s .limits
       by (refuses r may said) = refl
       by (notes t m within) = refl
       by (closesEvery t within) = refl
       by (orders p which m i within ok found) = refl
       by (calls p i ok rbc found) = refl
-      by (turns p event i found taken) = refl
+      by (turns p event i ok found taken) = refl
 
-  pub onRecord-limits : (bytes : List ℕ) (room : ℕ) → onRecord n s bytes room .state .limits ≡ s .limits
+  pub onRecord-limits : (bytes : List ℕ) (room : ℕ) → onRecord s bytes room .state .limits ≡ s .limits
   onRecord-limits bytes room =
-      on-record n s (λ o. o .state .limits ≡ s .limits) bytes room (λ r may. refl) (λ e is good ok. step-limits e)
+      on-record s (λ o. o .state .limits ≡ s .limits) bytes room (λ r may. refl) (λ e is good ok. step-limits e)
 
   -- the numbers that a step may give
-  pub step-number : (e : Event) → (step n s e .code ≡ refusal.accepted) ⊎ StepRefusal (step n s e .code)
-  step-number e = by (shape n s e)
+  pub step-number : (e : Event) → (step s e .code ≡ refusal.accepted) ⊎ StepRefusal (step s e .code)
+  step-number e = by (shape s e)
     where
-      by : {c : Concern} {o : Outcome} → Shape n s e c o → (o .code ≡ refusal.accepted) ⊎ StepRefusal (o .code)
+      by : {c : Concern} {o : Outcome} → Shape s e c o → (o .code ≡ refusal.accepted) ⊎ StepRefusal (o .code)
       by (refuses r may said) = inr may
       by (notes t m within) = inl refl
       by (closesEvery t within) = inl refl
       by (orders p which m i within ok found) = inl refl
       by (calls p i ok rbc found) = inl refl
-      by (turns p event i found taken) = inl refl
+      by (turns p event i ok found taken) = inl refl
 
   -- those that the step on a record may give
   pub onRecord-number : (bytes : List ℕ) (room : ℕ)
-      → (onRecord n s bytes room .code ≡ refusal.accepted) ⊎ RecordRefusal (onRecord n s bytes room .code)
+      → (onRecord s bytes room .code ≡ refusal.accepted)
+      ⊎ (RecordRefusal (onRecord s bytes room .code) ⊎ StepRefusal (onRecord s bytes room .code))
   onRecord-number bytes room =
-      on-record n s (λ o. (o .code ≡ refusal.accepted) ⊎ RecordRefusal (o .code)) bytes room (λ r may. inr may)
-      (λ e is good ok. by (step-number e))
-    where
-      by : {r : ℕ} → (r ≡ refusal.accepted) ⊎ StepRefusal r → (r ≡ refusal.accepted) ⊎ RecordRefusal r
-      by (inl accepted) = inl accepted
-      by (inr may) = inr (omega arith)
+      on-record s (λ o. (o .code ≡ refusal.accepted) ⊎ (RecordRefusal (o .code) ⊎ StepRefusal (o .code))) bytes room
+      (λ r may. inr (inl may))
+      (λ e is good ok. ⊎-elim inl (λ may. inr (inr may)) (step-number e))
 
   -- from a sound state and with room, the step on a record is the step on its reading
   pub onRecord-step : (bytes : List ℕ) (room : ℕ) (e : Event)
       → actionRoom ≤ room
-      → sound n s ≡ true
+      → sound s ≡ true
       → reading bytes ≡ Meant e
-      → onRecord n s bytes room ≡ step n s e
-  onRecord-step bytes room e enough good means = on-reading n s bytes room enough (Meant e) good means
+      → onRecord s bytes room ≡ step s e
+  onRecord-step bytes room e enough good means = on-reading s bytes room enough (Meant e) good means

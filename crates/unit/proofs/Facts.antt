@@ -1,19 +1,19 @@
 -- Soundness as facts. That of the places is an account: no place is bad, and no partner weighs more than one.
 -- Defines: bad, PlacesFacts, Facts.
--- Proves: places-facts, facts-places, sound-facts, facts-sound, set-facts, take-facts, closed-here, closedBy-facts, place-at.
+-- Proves: places-facts, facts-places, limits-tries, sound-facts, facts-sound, set-facts, take-facts, closed-here, closedBy-facts, place-at.
 use mathlib.Core.Path.{_≡_, refl, ap, _∙_}
 use mathlib.Core.Bool.{Bool, true, false, cond, _&&_}
 use mathlib.Core.List.{List, [], _∷_}
 use Prim.Native.Nat.{ℕ, _+_, _≤_, _<_}
 use native.Mathlib.Omega.{arith}
-use lib.Dec.{eqb}
+use lib.Dec.{eqb, leb}
 use lib.ListN.{length, getD, set}
-use borrow.Author.Tests.{eqb-true, eq-eqb}
+use borrow.Author.Tests.{eqb-true, eq-eqb, leb-true}
 use Rattle.record.specs.Partners.{samePartner}
 use Rattle.record.specs.declared.partner.Partner.{Partner}
 use Rattle.wire.proofs.Tests.{and-left, and-right, and-both, cond-case, cond-holds}
 use Rattle.record.proofs.Partners.{same-refl, same-eq}
-use Rattle.place.specs.Places.{vacant, seat, holds, placeOk}
+use Rattle.place.specs.Places.{mostTries, vacant, seat, holds, placeOk}
 use Rattle.place.proofs.Holdings.{holdsIn}
 use Rattle.place.specs.Table.{placeAfter, closedBy}
 use Rattle.place.specs.declared.phase.Phase.{Phase}
@@ -21,9 +21,11 @@ use Rattle.place.specs.declared.place.Direction.{Direction}
 use Rattle.place.specs.declared.place.Holding.{Holding}
 use Rattle.place.specs.declared.place.Holding.the-variants.{Free, Held}
 use Rattle.place.specs.declared.place.Place.{Place}
+use Rattle.place.specs.declared.limits.Limits.{Limits}
 use Rattle.place.specs.declared.turn.Closing.{Closing}
 use Rattle.place.proofs.Turns.{closedBy-sound, after-holds}
-use Rattle.unit.specs.States.{placeCount, limitsOk, trainOk, marksOk, absentFrom, placesOk, sound}
+use Rattle.unit.specs.States.{placeCount, highestX, limitsOk, trainOk, marksOk, absentFrom, placesOk, sound}
+use Rattle.unit.specs.Lasts.{lastOk}
 use Rattle.unit.specs.Steps.{closed}
 use Rattle.unit.specs.declared.state.State.{State}
 use Rattle.unit.proofs.Weights.{weigh-set, weigh-closed, weigh-at}
@@ -35,12 +37,12 @@ abbrev fails : Bool → ℕ
 fails b = cond b 0 1
 
 -- 1 for a place that is not sound by itself
-abbrev pub bad : ℕ → Place → ℕ
-bad n p = fails (placeOk n p)
+abbrev pub bad : Limits → Place → ℕ
+bad l p = fails (placeOk l p)
 
 -- the two facts of sound places
-abbrev pub PlacesFacts : ℕ → List Place → Type 0
-PlacesFacts n ps = (weigh (bad n) ps ≡ 0) × ((q : Partner) → weigh (here (holds q)) ps ≤ 1)
+abbrev pub PlacesFacts : Limits → List Place → Type 0
+PlacesFacts l ps = (weigh (bad l) ps ≡ 0) × ((q : Partner) → weigh (here (holds q)) ps ≤ 1)
 
 passes-none : (b : Bool) → b ≡ true → fails b ≡ 0
 passes-none b h = ap fails h
@@ -86,77 +88,90 @@ lone (Held d ph r) ps one =
     let both = one r in
     some-none (holds r) ps (none-first (holds r) ps (omega arith))
 
-pub places-facts : (n : ℕ) (ps : List Place) → placesOk n ps ≡ true → PlacesFacts n ps
+pub places-facts : (l : Limits) (ps : List Place) → placesOk l ps ≡ true → PlacesFacts l ps
 unfolding placesOk weigh
-places-facts n [] ok = (refl, λ q. omega arith)
-places-facts n (p ∷ ps) ok =
-    let above = absentFrom ps (p .holding) && placesOk n ps in
-    let rest = places-facts n ps (and-right (absentFrom ps (p .holding)) (placesOk n ps) (and-right (placeOk n p) above ok)) in
-    let good = passes-none (placeOk n p) (and-left (placeOk n p) above ok) in
+places-facts l [] ok = (refl, λ q. omega arith)
+places-facts l (p ∷ ps) ok =
+    let above = absentFrom ps (p .holding) && placesOk l ps in
+    let rest = places-facts l ps (and-right (absentFrom ps (p .holding)) (placesOk l ps) (and-right (placeOk l p) above ok)) in
+    let good = passes-none (placeOk l p) (and-left (placeOk l p) above ok) in
     let none = rest .0 in (
       omega arith,
-      λ q. alone q (p .holding) ps (and-left (absentFrom ps (p .holding)) (placesOk n ps) (and-right (placeOk n p) above ok)) (rest .1 q),
+      λ q. alone q (p .holding) ps (and-left (absentFrom ps (p .holding)) (placesOk l ps) (and-right (placeOk l p) above ok)) (rest .1 q),
     )
 
-pub facts-places : (n : ℕ) (ps : List Place) → PlacesFacts n ps → placesOk n ps ≡ true
+pub facts-places : (l : Limits) (ps : List Place) → PlacesFacts l ps → placesOk l ps ≡ true
 unfolding placesOk weigh
-facts-places n [] facts = refl
-facts-places n (p ∷ ps) facts =
+facts-places l [] facts = refl
+facts-places l (p ∷ ps) facts =
     let none = facts .0 in
-    and-both (placeOk n p) (absentFrom ps (p .holding) && placesOk n ps) (none-passes (placeOk n p) (omega arith))
-    (and-both (absentFrom ps (p .holding)) (placesOk n ps) (lone (p .holding) ps (facts .1))
-    (facts-places n ps (
+    and-both (placeOk l p) (absentFrom ps (p .holding) && placesOk l ps) (none-passes (placeOk l p) (omega arith))
+    (and-both (absentFrom ps (p .holding)) (placesOk l ps) (lone (p .holding) ps (facts .1))
+    (facts-places l ps (
       omega arith,
       λ q.
           let one = facts .1 q in
           omega arith,
     )))
 
+-- "tries run from 1 to n": n is 1 at the least, and 9 at the most
+pub limits-tries : (l : Limits) → limitsOk l ≡ true → (1 ≤ l .tries) × (l .tries ≤ mostTries)
+limits-tries l ok =
+    let tried = leb 1 (l .tries) && leb (l .tries) mostTries in
+    let h = and-right (leb (l .highest) highestX) tried (and-right (leb (l .lowest) (l .highest)) (leb (l .highest) highestX && tried) ok) in (
+      leb-true 1 (l .tries) (and-left (leb 1 (l .tries)) (leb (l .tries) mostTries) h),
+      leb-true (l .tries) mostTries (and-right (leb 1 (l .tries)) (leb (l .tries) mostTries) h),
+    )
+
 -- what soundness says, part by part
-pub record Facts (n : ℕ) (s : State) : Type 0 where
+pub record Facts (s : State) : Type 0 where
   pub limits : limitsOk (s .limits) ≡ true
   pub train : trainOk (s .train) ≡ true
   pub marks : marksOk (s .marks) ≡ true
   pub four : length (s .places) ≡ placeCount
-  pub places : PlacesFacts n (s .places)
+  pub places : PlacesFacts (s .limits) (s .places)
+  pub last : lastOk (s .last) ≡ true
 
-pub sound-facts : (n : ℕ) (s : State) → sound n s ≡ true → Facts n s
+pub sound-facts : (s : State) → sound s ≡ true → Facts s
 unfolding sound
-sound-facts n s ok =
-    let fourth = eqb (length (s .places)) placeCount && placesOk n (s .places) in
+sound-facts s ok =
+    let fifth = placesOk (s .limits) (s .places) && lastOk (s .last) in
+    let fourth = eqb (length (s .places)) placeCount && fifth in
     let third = marksOk (s .marks) && fourth in
     let second = trainOk (s .train) && third in
     let h₁ = and-right (limitsOk (s .limits)) second ok in
     let h₂ = and-right (trainOk (s .train)) third h₁ in
     let h₃ = and-right (marksOk (s .marks)) fourth h₂ in
+    let h₄ = and-right (eqb (length (s .places)) placeCount) fifth h₃ in
     record {
       limits = and-left (limitsOk (s .limits)) second ok;
       train = and-left (trainOk (s .train)) third h₁;
       marks = and-left (marksOk (s .marks)) fourth h₂;
-      four = eqb-true (length (s .places)) placeCount (and-left (eqb (length (s .places)) placeCount) (placesOk n (s .places)) h₃);
-      places = places-facts n (s .places) (and-right (eqb (length (s .places)) placeCount) (placesOk n (s .places)) h₃);
+      four = eqb-true (length (s .places)) placeCount (and-left (eqb (length (s .places)) placeCount) fifth h₃);
+      places = places-facts (s .limits) (s .places) (and-left (placesOk (s .limits) (s .places)) (lastOk (s .last)) h₄);
+      last = and-right (placesOk (s .limits) (s .places)) (lastOk (s .last)) h₄;
     }
 
-pub facts-sound : (n : ℕ) (s : State) → Facts n s → sound n s ≡ true
+pub facts-sound : (s : State) → Facts s → sound s ≡ true
 unfolding sound
-facts-sound n s f =
+facts-sound s f =
     and-both (limitsOk (s .limits)) _ (f .limits)
     (and-both (trainOk (s .train)) _ (f .train)
     (and-both (marksOk (s .marks)) _ (f .marks)
-    (and-both (eqb (length (s .places)) placeCount) (placesOk n (s .places)) (eq-eqb (length (s .places)) placeCount (f .four))
-    (facts-places n (s .places) (f .places)))))
+    (and-both (eqb (length (s .places)) placeCount) _ (eq-eqb (length (s .places)) placeCount (f .four))
+    (and-both (placesOk (s .limits) (s .places)) (lastOk (s .last)) (facts-places (s .limits) (s .places) (f .places)) (f .last)))))
 
 -- a store of a sound place that holds no other partner than the old one keeps the facts
-pub set-facts : (n : ℕ) (ps : List Place) (i : ℕ) (x : Place)
-    → PlacesFacts n ps
+pub set-facts : (l : Limits) (ps : List Place) (i : ℕ) (x : Place)
+    → PlacesFacts l ps
     → i < length ps
-    → placeOk n x ≡ true
+    → placeOk l x ≡ true
     → ((q : Partner) → holds q x ≡ true → holds q (getD ps i vacant) ≡ true)
-    → PlacesFacts n (set ps i x)
-set-facts n ps i x facts below good same =
+    → PlacesFacts l (set ps i x)
+set-facts l ps i x facts below good same =
     let none = facts .0 in
-    let account = weigh-set (bad n) ps i x below in
-    let new = passes-none (placeOk n x) good in (
+    let account = weigh-set (bad l) ps i x below in
+    let new = passes-none (placeOk l x) good in (
       omega arith,
       λ q.
           let one = facts .1 q in
@@ -166,16 +181,16 @@ set-facts n ps i x facts below good same =
     )
 
 -- so does the store of a partner that has no place
-pub take-facts : (n : ℕ) (ps : List Place) (i : ℕ) (d : Direction) (ph : Phase) (p : Partner)
-    → PlacesFacts n ps
+pub take-facts : (l : Limits) (ps : List Place) (i : ℕ) (d : Direction) (ph : Phase) (p : Partner)
+    → PlacesFacts l ps
     → i < length ps
-    → placeOk n (seat d ph p) ≡ true
+    → placeOk l (seat d ph p) ≡ true
     → weigh (here (holds p)) ps ≡ 0
-    → PlacesFacts n (set ps i (seat d ph p))
-take-facts n ps i d ph p facts below good absent =
+    → PlacesFacts l (set ps i (seat d ph p))
+take-facts l ps i d ph p facts below good absent =
     let none = facts .0 in
-    let account = weigh-set (bad n) ps i (seat d ph p) below in
-    let new = passes-none (placeOk n (seat d ph p)) good in (
+    let account = weigh-set (bad l) ps i (seat d ph p) below in
+    let new = passes-none (placeOk l (seat d ph p)) good in (
       omega arith,
       λ q.
           let one = facts .1 q in
@@ -196,12 +211,12 @@ closed-here which ps q =
     (λ p. here-less (holds q p) (holds q (placeAfter p (closedBy which p))) (after-holds q p (closedBy which p)))
 
 -- and keeps the facts
-pub closedBy-facts : (n : ℕ) → 1 ≤ n → (which : Closing) (ps : List Place) → PlacesFacts n ps → PlacesFacts n (closed which ps)
-closedBy-facts n some-try which ps facts =
+pub closedBy-facts : (l : Limits) → 1 ≤ l .tries → (which : Closing) (ps : List Place) → PlacesFacts l ps → PlacesFacts l (closed which ps)
+closedBy-facts l some-try which ps facts =
     let none = facts .0 in
     let account =
-    weigh-closed (bad n) which ps
-    (λ p. fails-less (placeOk n p) (placeOk n (placeAfter p (closedBy which p))) (closedBy-sound n some-try which (p .holding))) in (
+    weigh-closed (bad l) which ps
+    (λ p. fails-less (placeOk l p) (placeOk l (placeAfter p (closedBy which p))) (closedBy-sound l some-try which (p .holding))) in (
       omega arith,
       λ q.
           let one = facts .1 q in
@@ -210,8 +225,8 @@ closedBy-facts n some-try which ps facts =
     )
 
 -- the place at a number of sound places is sound
-pub place-at : (n : ℕ) (ps : List Place) (i : ℕ) → PlacesFacts n ps → i < length ps → placeOk n (getD ps i vacant) ≡ true
-place-at n ps i facts below =
+pub place-at : (l : Limits) (ps : List Place) (i : ℕ) → PlacesFacts l ps → i < length ps → placeOk l (getD ps i vacant) ≡ true
+place-at l ps i facts below =
     let none = facts .0 in
-    let less = weigh-at (bad n) ps i below in
-    none-passes (placeOk n (getD ps i vacant)) (omega arith)
+    let less = weigh-at (bad l) ps i below in
+    none-passes (placeOk l (getD ps i vacant)) (omega arith)

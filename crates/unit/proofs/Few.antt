@@ -84,8 +84,8 @@ room-free ps i below free =
 abbrev Few : Outcome → Type 0
 Few o = length (o .actions) ≤ mostActions
 
-module _ (n : ℕ) (s : State) (four : length (s .places) ≡ placeCount) where
-  few : {e : Event} {c : Concern} {o : Outcome} → Shape n s e c o → Few o
+module _ (s : State) (four : length (s .places) ≡ placeCount) where
+  few : {e : Event} {c : Concern} {o : Outcome} → Shape s e c o → Few o
   few (refuses r may said) = omega arith
   few (notes t m within) = omega arith
   few (closesEvery t within) =
@@ -99,15 +99,15 @@ module _ (n : ℕ) (s : State) (four : length (s .places) ≡ placeCount) where
       let joined = length-append (closingActions which (s .places)) (act p request ∷ []) in
       omega arith
   few (calls p i ok rbc found) = omega arith
-  few (turns p event i found taken) =
-      let most = turn-few (holdingTurn n (s .limits) (getD (s .places) i vacant .holding) event) in
+  few (turns p event i ok found taken) =
+      let most = turn-few (holdingTurn (s .limits) (getD (s .places) i vacant .holding) event) in
       simp length-map (omega arith)
 
   -- promise
-  pub step-few : (e : Event) → length (step n s e .actions) ≤ mostActions
-  step-few e = few (shape n s e)
+  pub step-few : (e : Event) → length (step s e .actions) ≤ mostActions
+  step-few e = few (shape s e)
 
 -- promise
-pub onRecord-few : (n : ℕ) (s : State) (bytes : List ℕ) (room : ℕ) → length (onRecord n s bytes room .actions) ≤ mostActions
-onRecord-few n s bytes room =
-    on-record n s Few bytes room (λ r some. omega arith) (λ e is good ok. step-few n s (sound-facts n s good .four) e)
+pub onRecord-few : (s : State) (bytes : List ℕ) (room : ℕ) → length (onRecord s bytes room .actions) ≤ mostActions
+onRecord-few s bytes room =
+    on-record s Few bytes room (λ r some. omega arith) (λ e is good ok. step-few s (sound-facts s good .four) e)

@@ -1,3 +1,4 @@
+pub mod Meant
 pub mod Shapes
 pub mod Weights
 pub mod Searches
@@ -20,6 +21,7 @@ pub mod OnBytes
 pub mod Effects
 pub mod Sent
 pub mod Quiet
+pub mod Recalled
 pub mod Runs
 pub mod OneAnswer
 pub mod Agreed

@@ -22,29 +22,29 @@ use Rattle.unit.specs.declared.answer.Answer.{Answer}
 use Rattle.unit.specs.declared.answer.Stepped.{Stepped}
 use Rattle.unit.proofs.Written.{listed-take}
 
-module _ (n : ℕ) (s : State) (bytes : List ℕ) where
-  pub bytes-unsound : sound n s ≡ false → applied n s bytes ≡ refused notSound s
+module _ (s : State) (bytes : List ℕ) where
+  pub bytes-unsound : sound s ≡ false → applied s bytes ≡ refused notSound s
   bytes-unsound bad = simp bad
 
-  pub bytes-reading : (r : Reading) → sound n s ≡ true → reading bytes ≡ r → applied n s bytes ≡ onReading n s r
+  pub bytes-reading : (r : Reading) → sound s ≡ true → reading bytes ≡ r → applied s bytes ≡ onReading s r
   bytes-reading r good means = simp (good, means)
 
   module _ (room : ℕ) where
-    pub on-room : room < actionRoom → onRecord n s bytes room ≡ refused noRoom s
+    pub on-room : room < actionRoom → onRecord s bytes room ≡ refused noRoom s
     unfolding onRecord
     on-room small = simp (lt-leb actionRoom room small)
 
-    pub on-enough : actionRoom ≤ room → onRecord n s bytes room ≡ applied n s bytes
+    pub on-enough : actionRoom ≤ room → onRecord s bytes room ≡ applied s bytes
     unfolding onRecord
     on-enough enough = simp (le-leb actionRoom room enough)
 
-    pub on-reading : actionRoom ≤ room → (r : Reading) → sound n s ≡ true → reading bytes ≡ r → onRecord n s bytes room ≡ onReading n s r
+    pub on-reading : actionRoom ≤ room → (r : Reading) → sound s ≡ true → reading bytes ≡ r → onRecord s bytes room ≡ onReading s r
     on-reading enough r good means = on-enough enough ∙ bytes-reading r good means
 
     -- the actions fit the room
-    pub on-fits : length (onRecord n s bytes room .actions) ≤ mostActions → actionSize * length (onRecord n s bytes room .actions) ≤ room
+    pub on-fits : length (onRecord s bytes room .actions) ≤ mostActions → actionSize * length (onRecord s bytes room .actions) ≤ room
     on-fits few =
-        cond-case {A = ℕ} (λ k. actionSize * length (onRecord n s bytes room .actions) ≤ room) (leb actionRoom room) 0 0
+        cond-case {A = ℕ} (λ k. actionSize * length (onRecord s bytes room .actions) ≤ room) (leb actionRoom room) 0 0
         (λ enough.
         let fit = leb-true actionRoom room enough in
         omega (arith, few))

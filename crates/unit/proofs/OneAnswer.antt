@@ -1,10 +1,11 @@
 -- No second answer satisfies the contract of a public function: a line for each of this crate's, over the contract as the checker names it.
--- Proves: state-apply-once, state-on-record-once, cold-start-once, state-is-sound-once, run-once.
+-- Proves: state-apply-once, state-on-record-once, cold-start-once, default-start-once, state-is-sound-once, run-once.
 use mathlib.Core.Path.{_≡_, sym, _∙_}
 use denote.Ref.{now}
 use Rattle.unit.proofs.state.State.apply.Reads as state-apply
 use Rattle.unit.proofs.state.State.on_record.Reads as state-on-record
 use Rattle.unit.proofs.start.cold_start.Reads as cold-start
+use Rattle.unit.proofs.start.default_start.Reads as default-start
 use Rattle.unit.proofs.state.State.is_sound.Reads as state-is-sound
 use Rattle.unit.proofs.run.run.Reads as run
 
@@ -25,6 +26,12 @@ pub cold-start-once : (κ : _) (limits : _) (r₁ : _) (r₂ : _)
     → cold-start.Post κ (limits, tt) r₂ (limits, tt)
     → r₁ ≡ r₂
 cold-start-once κ limits r₁ r₂ p q = p ∙ sym q
+
+pub default-start-once : (κ : _) (lowest : _) (highest : _) (r₁ : _) (r₂ : _)
+    → default-start.Post κ (lowest, (highest, tt)) r₁ (lowest, (highest, tt))
+    → default-start.Post κ (lowest, (highest, tt)) r₂ (lowest, (highest, tt))
+    → r₁ ≡ r₂
+default-start-once κ lowest highest r₁ r₂ p q = p ∙ sym q
 
 pub state-is-sound-once : (κ : _) (self : _) (r₁ : _) (r₂ : _)
     → state-is-sound.Post κ (self, tt) r₁ (self, tt)

@@ -58,19 +58,19 @@ closing-quiet Open = omega arith
 closing-quiet (Lost t) = omega arith
 closing-quiet (Ending t) = omega arith
 
-turn-quiet : (n : ℕ) (l : Limits) (t : ℕ) (e : PartnerEvent)
+turn-quiet : (l : Limits) (t : ℕ) (e : PartnerEvent)
     → stirring e ≡ false
-    → passing other (numbers (turn n l (Connecting t) e)) ≡ 0
+    → passing other (numbers (turn l (Connecting t) e)) ≡ 0
 unfolding turn
-turn-quiet n l t Drop calm = refl
-turn-quiet n l t Up calm = true-false true refl calm
-turn-quiet n l t Loss calm = refl
-turn-quiet n l t Timeout calm = true-false true refl calm
-turn-quiet n l t (Version v) calm = refl
-turn-quiet n l t Ended calm = refl
+turn-quiet l t Drop calm = refl
+turn-quiet l t Up calm = true-false true refl calm
+turn-quiet l t Loss calm = refl
+turn-quiet l t Timeout calm = true-false true refl calm
+turn-quiet l t (Version v) calm = refl
+turn-quiet l t Ended calm = refl
 
 -- each of these partners has a place, and all their places are Connecting
-module _ (n : ℕ) (s : State) (mine : Partner → Bool)
+module _ (s : State) (mine : Partner → Bool)
     (held : (p : Partner) → mine p ≡ true → 1 ≤ weigh (here (holds p)) (s .places))
     (connecting : weigh (here (placePast mine)) (s .places) ≡ 0) where
   closedBy-quiet : (which : Closing) (k : Holding) → count (otherFor mine) (actionsIn k (holdingClosedBy which k)) ≤ once (heldPast mine k)
@@ -112,24 +112,24 @@ module _ (n : ℕ) (s : State) (mine : Partner → Bool)
       → holdsIn p k ≡ true
       → once (heldPast mine k) ≡ 0
       → (mine p && stirring e) ≡ false
-      → count (otherFor mine) (map (act p) (numbers (holdingTurn n (s .limits) k e))) ≡ 0
+      → count (otherFor mine) (map (act p) (numbers (holdingTurn (s .limits) k e))) ≡ 0
   held-quiet p e Free holding past calm = true-false false holding refl
   held-quiet p e (Held d ph q) holding past calm =
-      count-sent mine other p (numbers (turn n (s .limits) ph e))
+      count-sent mine other p (numbers (turn (s .limits) ph e))
       ∙ by ph (mine p) (subst (λ r. once (mine r && not (isConnecting ph)) ≡ 0) (sym (same-eq p q holding)) past) calm
     where
       by : (ph : Phase) (b : Bool)
           → once (b && not (isConnecting ph)) ≡ 0
           → (b && stirring e) ≡ false
-          → cond b (passing other (numbers (turn n (s .limits) ph e))) 0 ≡ 0
-      by (Connecting t) true past calm = turn-quiet n (s .limits) t e calm
+          → cond b (passing other (numbers (turn (s .limits) ph e))) 0 ≡ 0
+      by (Connecting t) true past calm = turn-quiet (s .limits) t e calm
       by (Contacting t) true past calm = absurd (omega arith)
       by Open true past calm = absurd (omega arith)
       by (Lost t) true past calm = absurd (omega arith)
       by (Ending t) true past calm = absurd (omega arith)
       by ph false past calm = refl
 
-  quiet : {e : Event} {c : Concern} {o : Outcome} → Shape n s e c o → Quiet mine c o
+  quiet : {e : Event} {c : Concern} {o : Outcome} → Shape s e c o → Quiet mine c o
   unfolding count
   quiet (refuses r may said) calm = refl
   quiet (notes t m within) calm = refl
@@ -140,21 +140,21 @@ module _ (n : ℕ) (s : State) (mine : Partner → Bool)
       let joined = count-append (otherFor mine) (closingActions which (s .places)) (act p request ∷ []) in
       omega arith
   quiet (calls p i ok rbc found) calm = newcomer-quiet p i established found
-  quiet (turns p event i found taken) calm =
+  quiet (turns p event i ok found taken) calm =
       let at = found-ok p (s .places) _ found in
       let one = weigh-at (here (placePast mine)) (s .places) i (at .0) in
       held-quiet p event (getD (s .places) i vacant .holding) (at .1) (omega arith) calm
 
   -- no up, lost or timeout for them: nothing but a 22
-  pub step-quiet : (e : Event) → Quiet mine (concern e) (step n s e)
-  step-quiet e = quiet (shape n s e)
+  pub step-quiet : (e : Event) → Quiet mine (concern (s .last) e) (step s e)
+  step-quiet e = quiet (shape s e)
 
-  pub onRecord-quiet : (bytes : List ℕ) (room : ℕ) → Quiet mine (concernOf (reading bytes)) (onRecord n s bytes room)
+  pub onRecord-quiet : (bytes : List ℕ) (room : ℕ) → Quiet mine (concernOf (s .last) (reading bytes)) (onRecord s bytes room)
   unfolding count
-  onRecord-quiet bytes room = by-concern n s (Quiet mine) bytes room (λ c r may calm. refl) step-quiet
+  onRecord-quiet bytes room = by-concern s (Quiet mine) bytes room (λ c r may calm. refl) step-quiet
 
 -- one partner of a sound state that is Connecting
-module _ (n : ℕ) (s : State) (good : sound n s ≡ true) (p : Partner) (i : ℕ) (d : Direction) (t : ℕ)
+module _ (s : State) (good : sound s ≡ true) (p : Partner) (i : ℕ) (d : Direction) (t : ℕ)
     (below : i < length (s .places))
     (place : getD (s .places) i vacant ≡ seat d (Connecting t) p) where
   -- has that place
@@ -171,7 +171,7 @@ module _ (n : ℕ) (s : State) (good : sound n s ≡ true) (p : Partner) (i : �
   no-other : weigh (here (placePast (samePartner p))) (s .places) ≡ 0
   no-other =
       let mine = samePartner p in
-      let one = sound-facts n s good .places .1 p in
+      let one = sound-facts s good .places .1 p in
       let own = own-place in
       let past : here (placePast mine) (getD (s .places) i vacant) ≡ 0 =
       ap (here (placePast mine)) place ∙ ap (λ b. once (b && false)) (same-refl p) in
@@ -191,5 +191,5 @@ module _ (n : ℕ) (s : State) (good : sound n s ≡ true) (p : Partner) (i : �
       by (Held e ph q) = by-test (samePartner p q) (not (isConnecting ph))
 
   -- an event that is no up, lost or timeout for it sends it nothing but a 22
-  pub connecting-quiet : (e : Event) → Quiet (samePartner p) (concern e) (step n s e)
-  connecting-quiet = step-quiet n s (samePartner p) has-place no-other
+  pub connecting-quiet : (e : Event) → Quiet (samePartner p) (concern (s .last) e) (step s e)
+  connecting-quiet = step-quiet s (samePartner p) has-place no-other

@@ -8,7 +8,7 @@ use native.Mathlib.Omega.{arith}
 use lib.Dec.{eqb}
 use lib.ListN.{length, length-append}
 use borrow.Author.Tests.{lt-ltb}
-use Rattle.record.specs.Partners.{isRbc}
+use Rattle.record.specs.Partners.{isRbc, reserved}
 use Rattle.record.specs.Records.{missionEnded}
 use Rattle.wire.specs.Refusals as refusal
 use Rattle.record.specs.declared.partner.Partner.{Partner}
@@ -20,8 +20,9 @@ use Rattle.place.specs.Table.{takes}
 use Rattle.place.specs.declared.phase.Phase.{Phase}
 use Rattle.place.specs.declared.turn.Turn.{Turn}
 use Rattle.place.specs.declared.turn.Closing.the-variants.{Every}
+use Rattle.unit.specs.Lasts.{meant}
 use Rattle.unit.specs.States.{seek, standing}
-use Rattle.unit.specs.Steps.{refusedAt, refused, done, act, withMarks, withMission, markHole, holeTaken, inForce, closePlaces, admitted, orderedAt, calledAt, turnedAt, turned, namedAt, step}
+use Rattle.unit.specs.Steps.{refusedAt, refused, done, act, withMarks, withMission, markHole, holeTaken, inForce, closePlaces, admitted, orderedAt, calledAt, turnedAt, turned, namedAt, step, orderedTo}
 use Rattle.unit.specs.Forms.{mostActions, noAction, listed}
 use Rattle.unit.specs.Changes.{pushed, pushAll}
 use Rattle.unit.specs.declared.state.State.{State}
@@ -29,43 +30,49 @@ use Rattle.unit.specs.declared.search.Found.{Found}
 use Rattle.unit.specs.declared.search.Found.the-variants.{At}
 use Rattle.unit.specs.declared.answer.Action.{Action}
 
-module _ (n : ℕ) (s : State) where
+module _ (s : State) where
   pub hole-is : (entered b : Bool)
       → holeTaken (s .marks) entered ≡ b
-      → step n s (Hole entered) ≡ cond b (done (withMarks s (markHole (s .marks) entered)) []) (refused refusal.notTaken s)
+      → step s (Hole entered) ≡ cond b (done (withMarks s (markHole (s .marks) entered)) []) (refused refusal.notTaken s)
   unfolding step
   hole-is entered b test =
       ap (λ t. cond t (done (withMarks s (markHole (s .marks) entered)) []) (refused refusal.notTaken s)) test
 
   pub mission-is : (mission : ℕ) (b : Bool)
       → eqb mission missionEnded ≡ b
-      → step n s (Mission mission) ≡ cond b (closePlaces Every (withMission s mission)) (done (withMission s mission) [])
+      → step s (Mission mission) ≡ cond b (closePlaces Every (withMission s mission)) (done (withMission s mission) [])
   unfolding step
   mission-is mission b test =
       ap (λ t. cond t (closePlaces Every (withMission s mission)) (done (withMission s mission) [])) test
 
-  pub order-is : (p : Partner) (accepting : Bool) (cause : Cause) (b : Bool) (found : Found)
+  pub order-is : (p q : Partner) (accepting : Bool) (cause : Cause) (b : Bool)
       → inForce cause (s .train) (s .marks) ≡ b
-      → seek p (s .places) ≡ found
-      → step n s (Order p accepting cause)
-      ≡ cond b (admitted s (orderedAt s p accepting cause) found) (refused refusal.notInForce s)
+      → meant (s .last) p ≡ q
+      → step s (Order p accepting cause) ≡ cond b (orderedTo s q accepting cause) (refused refusal.notInForce s)
   unfolding step
-  order-is p accepting cause b found test search =
-      ap₂ (λ t f. cond t (admitted s (orderedAt s p accepting cause) f) (refused refusal.notInForce s)) test search
+  order-is p q accepting cause b test whom =
+      ap₂ (λ t r. cond t (orderedTo s r accepting cause) (refused refusal.notInForce s)) test whom
+
+  pub ordered-is : (p : Partner) (accepting : Bool) (cause : Cause) (b : Bool) (found : Found)
+      → reserved p ≡ b
+      → seek p (s .places) ≡ found
+      → orderedTo s p accepting cause ≡ cond b (refused refusal.noneKnown s) (admitted s (orderedAt s p accepting cause) found)
+  ordered-is p accepting cause b found test search =
+      ap₂ (λ t f. cond t (refused refusal.noneKnown s) (admitted s (orderedAt s p accepting cause) f)) test search
 
   pub call-is : (p : Partner) (b : Bool) (found : Found)
       → isRbc p ≡ b
       → seek p (s .places) ≡ found
-      → step n s (Call p) ≡ cond b (admitted s (calledAt s p) found) (refused refusal.callFromRiu s)
+      → step s (Call p) ≡ cond b (admitted s (calledAt s p) found) (refused refusal.callFromRiu s)
   unfolding step
   call-is p b found test search =
       ap₂ (λ t f. cond t (admitted s (calledAt s p) f) (refused refusal.callFromRiu s)) test search
 
   pub named-is : (p : Partner) (e : PartnerEvent) (found : Found)
       → seek p (s .places) ≡ found
-      → step n s (Named p e) ≡ namedAt n s p e found
+      → step s (Named p e) ≡ namedAt s p e found
   unfolding step
-  named-is p e found search = ap (namedAt n s p e) search
+  named-is p e found search = ap (namedAt s p e) search
 
   pub turned-is : (i : ℕ) (ph : Phase) (p : Partner) (t : Turn) (b : Bool)
       → takes t ≡ b

@@ -66,11 +66,11 @@ abbrev pub brings : Scale → PartnerEvent → ℕ
 brings σ e = getD (σ .columns) (column e) 0
 
 -- the accounts of a taking in, of every closing and of every turn
-pub record Balanced (m : Sense) (n : ℕ) (σ : Scale) : Type 0 where
+pub record Balanced (m : Sense) (l : Limits) (σ : Scale) : Type 0 where
   pub ordered : Balance m (once (σ .counts request) + σ .weight (Connecting firstTry)) (σ .order)
   pub called : Balance m (once (σ .counts established) + σ .weight Open) (σ .call)
   pub closings : (ph : Phase) → Turned m σ ph 0 (closing ph)
-  pub turns : (l : Limits) (ph : Phase) (e : PartnerEvent) → Turned m σ ph (brings σ e) (turn n l ph e)
+  pub turns : (ph : Phase) (e : PartnerEvent) → Turned m σ ph (brings σ e) (turn l ph e)
 
 -- what counts where only some partners are looked at: their places and their actions
 abbrev pub weightIn : Scale → (Partner → Bool) → Holding → ℕ
@@ -109,17 +109,17 @@ module _ (m : Sense) (σ : Scale) (mine : Partner → Bool) where
       rw (count-sent mine (σ .counts) p (numbers t), weight-after d ph p t)
       (looked-at (mine p) (sent σ (numbers t)) (next σ ph t) (σ .weight ph) b h)
 
-  module _ (n : ℕ) (balanced : Balanced m n σ) where
+  module _ (l : Limits) (balanced : Balanced m l σ) where
     -- of an event that names the partner of a place
-    pub held-account : (l : Limits) (p : Partner) (e : PartnerEvent) (k : Holding)
+    pub held-account : (p : Partner) (e : PartnerEvent) (k : Holding)
         → holdsIn p k ≡ true
         → Balance m
-        (count (counted σ mine) (map (act p) (numbers (holdingTurn n l k e)))
-        + weightOf σ mine (placeAfter (record { holding = k }) (holdingTurn n l k e)))
+        (count (counted σ mine) (map (act p) (numbers (holdingTurn l k e)))
+        + weightOf σ mine (placeAfter (record { holding = k }) (holdingTurn l k e)))
         (weightIn σ mine k + cond (mine p) (brings σ e) 0)
-    held-account l p e Free h = true-false false h refl
-    held-account l p e (Held d ph q) h =
-        rw (same-eq p q h) (place-account d ph q (brings σ e) (turn n l ph e) (balanced .turns l ph e))
+    held-account p e Free h = true-false false h refl
+    held-account p e (Held d ph q) h =
+        rw (same-eq p q h) (place-account d ph q (brings σ e) (turn l ph e) (balanced .turns ph e))
 
     -- of the closing of a place
     closedBy-place : (which : Closing) (k : Holding)
@@ -147,23 +147,23 @@ module _ (m : Sense) (σ : Scale) (mine : Partner → Bool) where
         rw (count-append (counted σ mine) (actionsIn (p .holding) (closedBy which p)) (closingActions which ps))
         (joined m _ _ _ _ _ _ 0 0 (closedBy-place which (p .holding)) (closedBy-account which ps))
 
-module _ (m : Sense) (n : ℕ) (σ : Scale) where
+module _ (m : Sense) (l : Limits) (σ : Scale) where
   -- a law of every turn is one of every cell of every row, beside what its column brings
-  pub turns-by-row : ((l : Limits) (ph : Phase) (v : ℕ) → Beside (λ c b. Turned m σ ph b (play n l ph v c)) (table ph) (σ .columns))
-      → (l : Limits) (ph : Phase) (e : PartnerEvent)
-      → Turned m σ ph (brings σ e) (turn n l ph e)
+  pub turns-by-row : ((ph : Phase) (v : ℕ) → Beside (λ c b. Turned m σ ph b (play l ph v c)) (table ph) (σ .columns))
+      → (ph : Phase) (e : PartnerEvent)
+      → Turned m σ ph (brings σ e) (turn l ph e)
   unfolding turn
-  turns-by-row row l ph e =
-      beside-at (λ c b. Turned m σ ph b (play n l ph (versionOf e) c)) (table ph) (σ .columns) refuse (row l ph (versionOf e))
+  turns-by-row row ph e =
+      beside-at (λ c b. Turned m σ ph b (play l ph (versionOf e) c)) (table ph) (σ .columns) refuse (row ph (versionOf e))
       (level m (0 + σ .weight ph) (σ .weight ph + 0) (omega arith))
       (column e)
 
   -- a timeout with a try left, and one with none
   pub again-turned : (number : ℕ) (ph : Phase) (b : ℕ)
-      → (tries ph < n → Turned m σ ph b (Sends number (oneMore ph)))
-      → (n ≤ tries ph → Turned m σ ph b Released)
-      → Turned m σ ph b (again n number ph)
+      → (tries ph < l .tries → Turned m σ ph b (Sends number (oneMore ph)))
+      → (l .tries ≤ tries ph → Turned m σ ph b Released)
+      → Turned m σ ph b (again l number ph)
   again-turned number ph b more last =
-      cond-case (Turned m σ ph b) (ltb (tries ph) n) (Sends number (oneMore ph)) Released
-      (λ lt. more (ltb-true (tries ph) n lt))
-      (λ ge. last (ltb-false (tries ph) n ge))
+      cond-case (Turned m σ ph b) (ltb (tries ph) (l .tries)) (Sends number (oneMore ph)) Released
+      (λ lt. more (ltb-true (tries ph) (l .tries) lt))
+      (λ ge. last (ltb-false (tries ph) (l .tries) ge))

@@ -41,7 +41,7 @@ seats =
       columns = 0 ∷ 0 ∷ 0 ∷ 0 ∷ 0 ∷ 0 ∷ [];
     }
 
-module _ (n : ℕ) where
+module _ (l : Limits) where
   -- a closing releases or keeps
   closings : (ph : Phase) → Turned exactly seats ph 0 (closing ph)
   closings (Connecting t) = refl
@@ -51,25 +51,25 @@ module _ (n : ℕ) where
   closings (Ending t) = refl
 
   -- so does every cell of the table
-  rows : (l : Limits) (ph : Phase) (v : ℕ) → Beside (λ c b. Turned exactly seats ph b (play n l ph v c)) (table ph) (seats .columns)
-  rows l (Connecting t) v =
-      refl ▹ refl ▹ refl ▹ again-turned exactly n seats 21 (Connecting t) 0 (λ more. refl) (λ last. refl) ▹ refl ▹ refl ▹ tt
-  rows l (Contacting t) v =
+  rows : (ph : Phase) (v : ℕ) → Beside (λ c b. Turned exactly seats ph b (play l ph v c)) (table ph) (seats .columns)
+  rows (Connecting t) v =
+      refl ▹ refl ▹ refl ▹ again-turned exactly l seats 21 (Connecting t) 0 (λ more. refl) (λ last. refl) ▹ refl ▹ refl ▹ tt
+  rows (Contacting t) v =
       refl
       ▹ refl
       ▹ refl
-      ▹ again-turned exactly n seats 155 (Contacting t) 0 (λ more. refl) (λ last. refl)
+      ▹ again-turned exactly l seats 155 (Contacting t) 0 (λ more. refl) (λ last. refl)
       ▹ judged-case (Turned exactly seats (Contacting t) 0) l v refl refl
       ▹ refl
       ▹ tt
-  rows l Open v = refl ▹ refl ▹ refl ▹ refl ▹ refl ▹ refl ▹ tt
-  rows l (Lost t) v =
-      refl ▹ refl ▹ refl ▹ again-turned exactly n seats 21 (Lost t) 0 (λ more. refl) (λ last. refl) ▹ refl ▹ refl ▹ tt
-  rows l (Ending t) v =
-      refl ▹ refl ▹ refl ▹ again-turned exactly n seats 156 (Ending t) 0 (λ more. refl) (λ last. refl) ▹ refl ▹ refl ▹ tt
+  rows Open v = refl ▹ refl ▹ refl ▹ refl ▹ refl ▹ refl ▹ tt
+  rows (Lost t) v =
+      refl ▹ refl ▹ refl ▹ again-turned exactly l seats 21 (Lost t) 0 (λ more. refl) (λ last. refl) ▹ refl ▹ refl ▹ tt
+  rows (Ending t) v =
+      refl ▹ refl ▹ refl ▹ again-turned exactly l seats 156 (Ending t) 0 (λ more. refl) (λ last. refl) ▹ refl ▹ refl ▹ tt
 
-  pub seats-balanced : Balanced exactly n seats
-  seats-balanced = record { ordered = refl; called = refl; closings = closings; turns = turns-by-row exactly n seats rows }
+  pub seats-balanced : Balanced exactly l seats
+  seats-balanced = record { ordered = refl; called = refl; closings = closings; turns = turns-by-row exactly l seats rows }
 
 module _ (mine : Partner → Bool) where
   -- what weighs is the places that these partners have

@@ -34,7 +34,7 @@ use Rattle.unit.specs.declared.state.State.{State}
 use Rattle.unit.specs.declared.search.Found.the-variants.{Vacant}
 use Rattle.unit.specs.declared.search.Standing.{Standing}
 use Rattle.unit.specs.declared.answer.Action.{Action}
-use Rattle.unit.proofs.Shapes.{RecordRefusal, Shape, refuses, notes, closesEvery, orders, calls, turns, shape, by-concern}
+use Rattle.unit.proofs.Shapes.{Shape, refuses, notes, closesEvery, orders, calls, turns, shape, by-concern, step-numbered}
 use Rattle.unit.proofs.Counts.{count-append, count-one, closingActions-most}
 use Rattle.unit.proofs.Searches.{found-ok}
 use Rattle.unit.proofs.Few.{closing-few}
@@ -60,7 +60,7 @@ cond-most : (b : Bool) (k m : ℕ) → k ≤ m → cond b k 0 ≤ cond b m 0
 cond-most true k m h = h
 cond-most false k m h = omega arith
 
-module _ (n : ℕ) (s : State) (mine : Partner → Bool) where
+module _ (s : State) (mine : Partner → Bool) where
   conserved : (c : Concern) (o : Outcome) → Account exactly seats mine s (broughtTo seats mine c) o → Conserved mine s c o
   conserved c o account =
       let ok = eqb (o .code) refusal.accepted in
@@ -74,13 +74,13 @@ module _ (n : ℕ) (s : State) (mine : Partner → Bool) where
       by false b = refl
 
   -- the account of releases
-  pub step-releases : (e : Event) → Conserved mine s (concern e) (step n s e)
-  step-releases e = conserved (concern e) (step n s e) (step-account exactly n seats (seats-balanced n) mine s e)
+  pub step-releases : (e : Event) → Conserved mine s (concern (s .last) e) (step s e)
+  step-releases e = conserved (concern (s .last) e) (step s e) (step-account exactly seats mine s (seats-balanced (s .limits)) e)
 
-  pub onRecord-releases : (bytes : List ℕ) (room : ℕ) → Conserved mine s (concernOf (reading bytes)) (onRecord n s bytes room)
+  pub onRecord-releases : (bytes : List ℕ) (room : ℕ) → Conserved mine s (concernOf (s .last) (reading bytes)) (onRecord s bytes room)
   onRecord-releases bytes room =
-      by-concern n s (Conserved mine s) bytes room
-      (λ c r may. conserved c (refused r s) (refused-account exactly n seats (seats-balanced n) mine s _ r (λ none. omega arith)))
+      by-concern s (Conserved mine s) bytes room
+      (λ c r may. conserved c (refused r s) (refused-account exactly seats mine s (seats-balanced (s .limits)) _ r (λ none. omega arith)))
       step-releases
 
   -- a closing has at most one action for each place of theirs
@@ -92,11 +92,11 @@ module _ (n : ℕ) (s : State) (mine : Partner → Bool) where
       (rw (count-one mine p (numbers (closing ph))) (cond-most (mine p) (length (numbers (closing ph))) 1 (closing-few ph)))
       (omega arith)
 
-  closingActions-for : (which : Closing) → count (actionFor mine) (closingActions which (s .places)) ≤ weigh (here (placeOf mine)) (s .places)
+  pub closingActions-for : (which : Closing) → count (actionFor mine) (closingActions which (s .places)) ≤ weigh (here (placeOf mine)) (s .places)
   closingActions-for which =
       closingActions-most (actionFor mine) (here (placeOf mine)) which (λ place. closedBy-for which (place .holding)) (s .places)
 
-  most : {e : Event} {c : Concern} {o : Outcome} → Shape n s e c o → count (actionFor mine) (o .actions) ≤ mostFor mine (s .places) c
+  most : {e : Event} {c : Concern} {o : Outcome} → Shape s e c o → count (actionFor mine) (o .actions) ≤ mostFor mine (s .places) c
   unfolding count
   most (refuses r may said) = omega arith
   most (notes t m within) = omega arith
@@ -106,19 +106,19 @@ module _ (n : ℕ) (s : State) (mine : Partner → Bool) where
       let joined = count-append (actionFor mine) (closingActions which (s .places)) (act p request ∷ []) in
       omega arith
   most (calls p i ok rbc found) = omega arith
-  most (turns p event i found taken) =
-      let t = holdingTurn n (s .limits) (getD (s .places) i vacant .holding) event in
+  most (turns p event i ok found taken) =
+      let t = holdingTurn (s .limits) (getD (s .places) i vacant .holding) event in
       rw (count-one mine p (numbers t)) (cond-most (mine p) (length (numbers t)) 2 (turn-few t))
 
   -- how many actions a step has for them
-  pub step-most : (e : Event) → count (actionFor mine) (step n s e .actions) ≤ mostFor mine (s .places) (concern e)
-  step-most e = most (shape n s e)
+  pub step-most : (e : Event) → count (actionFor mine) (step s e .actions) ≤ mostFor mine (s .places) (concern (s .last) e)
+  step-most e = most (shape s e)
 
   pub onRecord-most : (bytes : List ℕ) (room : ℕ)
-      → count (actionFor mine) (onRecord n s bytes room .actions) ≤ mostFor mine (s .places) (concernOf (reading bytes))
+      → count (actionFor mine) (onRecord s bytes room .actions) ≤ mostFor mine (s .places) (concernOf (s .last) (reading bytes))
   unfolding count
   onRecord-most bytes room =
-      by-concern n s (λ c o. count (actionFor mine) (o .actions) ≤ mostFor mine (s .places) c) bytes room
+      by-concern s (λ c o. count (actionFor mine) (o .actions) ≤ mostFor mine (s .places) c) bytes room
       (λ c r may. omega arith)
       step-most
 
@@ -135,28 +135,28 @@ Ends (orderTo p) o = o .code ≡ refusal.accepted → Ordered p (o .actions)
 Ends (callOf p) o = Unit
 Ends (naming p e) o = Unit
 
-module _ (n : ℕ) (s : State) where
-  refused-ends : (c : Concern) (r : ℕ) (w : Standing) → RecordRefusal r → Ends c (refusedAt r w s)
-  refused-ends nobody r w may = tt
-  refused-ends (orderTo p) r w may = λ accepted. absurd (omega arith)
-  refused-ends (callOf p) r w may = tt
-  refused-ends (naming p e) r w may = tt
+module _ (s : State) where
+  refused-ends : (c : Concern) (r : ℕ) (w : Standing) → (r ≡ refusal.accepted → ⊥) → Ends c (refusedAt r w s)
+  refused-ends nobody r w some = tt
+  refused-ends (orderTo p) r w some = λ accepted. absurd (some accepted)
+  refused-ends (callOf p) r w some = tt
+  refused-ends (naming p e) r w some = tt
 
-  ends : {e : Event} {c : Concern} {o : Outcome} → Shape n s e c o → Ends c o
-  ends (refuses {c = c} {w = w} r may said) = refused-ends c r w (omega arith)
+  ends : {e : Event} {c : Concern} {o : Outcome} → Shape s e c o → Ends c o
+  ends (refuses {c = c} {w = w} r may said) = refused-ends c r w (step-numbered r may)
   ends (notes t m within) = tt
   ends (closesEvery t within) = tt
   ends (orders p which m i within ok found) =
       let absent = found-ok p (s .places) (Vacant i) found .2 in
       let own = own-places p (s .places) in
-      let few = closingActions-for n s (samePartner p) which in
+      let few = closingActions-for s (samePartner p) which in
       λ accepted. record { closings = closingActions which (s .places); last = refl; others = omega arith }
   ends (calls p i ok rbc found) = tt
-  ends (turns p event i found taken) = tt
+  ends (turns p event i ok found taken) = tt
 
   -- how an accepted order ends
-  pub step-ends : (e : Event) → Ends (concern e) (step n s e)
-  step-ends e = ends (shape n s e)
+  pub step-ends : (e : Event) → Ends (concern (s .last) e) (step s e)
+  step-ends e = ends (shape s e)
 
-  pub onRecord-ends : (bytes : List ℕ) (room : ℕ) → Ends (concernOf (reading bytes)) (onRecord n s bytes room)
-  onRecord-ends bytes room = by-concern n s Ends bytes room (λ c r. refused-ends c r nowhere) step-ends
+  pub onRecord-ends : (bytes : List ℕ) (room : ℕ) → Ends (concernOf (s .last) (reading bytes)) (onRecord s bytes room)
+  onRecord-ends bytes room = by-concern s Ends bytes room (λ c r may. refused-ends c r nowhere (λ none. omega arith)) step-ends

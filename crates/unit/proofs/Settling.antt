@@ -1,6 +1,6 @@
 -- A change carried out, in the shapes that the code builds.
 -- Proves: closed-nothing, closingActions-nothing, carried-refused, carried-made, carried-noted, carried-quiet, carried-set, carried-take,
--- settled-past, made-few, packed-made, packed-unclosed.
+-- settled-at, settled-past, made-few, packed-made, packed-unclosed.
 use mathlib.Core.Path.{_≡_, refl, sym, ap, ap₂, subst, _∙_}
 use mathlib.Core.Bool.{true, false}
 use mathlib.Core.List.{List, [], _∷_, _++_, map, append-nil}
@@ -24,8 +24,10 @@ use Rattle.place.specs.declared.turn.Turn.{Turn}
 use Rattle.place.specs.declared.turn.Turn.the-variants.{Stays, Sends}
 use Rattle.place.specs.declared.turn.Closing.{Closing}
 use Rattle.place.specs.declared.turn.Closing.the-variants.{Every, Sessions, Nothing}
+use Rattle.unit.specs.declared.last.Last.{Last}
+use Rattle.unit.specs.Lasts.{recalled}
 use Rattle.unit.specs.States.{placeCount}
-use Rattle.unit.specs.Steps.{refusedAt, done, act, actionsIn, withTrain, withMarks, withPlaces, closed, closingActions, closePlaces, takenIn, step}
+use Rattle.unit.specs.Steps.{refusedAt, done, act, actionsIn, withTrain, withMarks, withPlaces, closed, closingActions, closePlaces, takenIn, step, recalling, setAt}
 use Rattle.unit.specs.Forms.{mostActions, listed, packed}
 use Rattle.unit.specs.Changes.{pushAll, noted, closesAny, settled, made, carried}
 use Rattle.unit.specs.declared.state.Train.{Train}
@@ -85,7 +87,7 @@ module _ (s : State) where
     pub carried-noted : (which : Closing)
         → carried s (noted refusal.accepted t m which w)
         ≡ done (withPlaces (withMarks (withTrain s t) m) (closed which (s .places))) (closingActions which (s .places))
-    unfolding carried made settled noted
+    unfolding carried made settled noted recalled
     carried-noted which =
         let past : length (closed which (s .places)) ≤ placeCount = rw (length-closed which (s .places)) (omega (arith, four)) in
         λ i.
@@ -101,29 +103,45 @@ module _ (s : State) where
   -- one place set, none closed
   pub carried-set : (at : ℕ) (place : Place) (p : Partner) (t : Turn) (w : Standing)
       → carried s (record { code = refusal.accepted; train = s .train; marks = s .marks; which = Nothing; at = at; place = place; partner = p; turn = t; standing = w })
-      ≡ done (withPlaces s (set (s .places) at place)) (map (act p) (numbers t))
+      ≡ setAt s at place (map (act p) (numbers t))
   unfolding carried made settled
   carried-set at place p t w =
-      λ i. done (withPlaces s (set (closed-nothing (s .places) i) at place)) (closingActions-nothing (s .places) i ++ map (act p) (numbers t))
+      let acts = map (act p) (numbers t) in
+      λ i.
+      done (recalling (withPlaces s (set (closed-nothing (s .places) i) at place)) acts) (closingActions-nothing (s .places) i ++ acts)
 
   -- a partner taken in after the closings
   pub carried-take : (m : Marks) (which : Closing) (at : ℕ) (p : Partner) (w : Standing)
       → carried s (record { code = refusal.accepted; train = s .train; marks = m; which = which; at = at; place = seat Outgoing (Connecting firstTry) p; partner = p; turn = Sends request (Connecting firstTry); standing = w })
       ≡ takenIn (closePlaces which (withMarks s m)) at p
-  unfolding carried made settled
+  unfolding carried made settled recalled
   carried-take m which at p w = refl
 
   module _ (c : Change) where
-    -- past the last place none is set
-    pub settled-past : length (s .places) ≤ c .at → withMarks (withTrain s (c .train)) (c .marks) ≡ settled s c
-    unfolding settled
-    settled-past above = sym (ap (withPlaces (withMarks (withTrain s (c .train)) (c .marks))) (set-past (s .places) (c .at) (c .place) above))
+    module _ (last : Last) (known : last ≡ recalled (s .last) (map (act (c .partner)) (numbers (c .turn)))) where
+      -- its place is set
+      pub settled-at :
+          _≡_ {A = State}
+          (record { limits = s .limits; train = c .train; marks = c .marks; places = set (s .places) (c .at) (c .place); last = last })
+          (settled s c)
+      unfolding settled
+      settled-at =
+          λ i.
+          record { limits = s .limits; train = c .train; marks = c .marks; places = set (s .places) (c .at) (c .place); last = known i }
+
+      -- past the last place none is set
+      pub settled-past :
+          length (s .places) ≤ c .at
+          → _≡_ {A = State} (record { limits = s .limits; train = c .train; marks = c .marks; places = s .places; last = last }) (settled s c)
+      settled-past above =
+          let none = sym (set-past (s .places) (c .at) (c .place) above) in
+          (λ i. record { limits = s .limits; train = c .train; marks = c .marks; places = none i; last = last }) ∙ settled-at
 
     -- a change that is a step has at most four actions
-    pub made-few : (n : ℕ) (four : length (s .places) ≡ placeCount) (e : Event)
-        → made s c ≡ step n s e
+    pub made-few : (four : length (s .places) ≡ placeCount) (e : Event)
+        → made s c ≡ step s e
         → length (made s c .actions) ≤ mostActions
-    made-few n four e is = subst (λ o. length (o .actions) ≤ mostActions) (sym is) (step-few n s four e)
+    made-few four e is = subst (λ o. length (o .actions) ≤ mostActions) (sym is) (step-few s four e)
 
     -- the code makes it: the closings, the place, the actions
     module _ (few : length (made s c .actions) ≤ mostActions) (r : Answer) (next : State) (sent : Actions)

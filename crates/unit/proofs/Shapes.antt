@@ -1,9 +1,9 @@
 -- A law of every step is one of each shape that a step's outcome can have, and one of every record is one of every refusal and of
 -- every step.
 -- Defines: StepRefusal, RecordRefusal, InRange, ToldOf, Told, Shape.
--- Proves: told-none, shape, by-reading, on-record, by-concern.
+-- Proves: step-numbered, told-none, shape, by-reading, on-record, by-concern.
 use mathlib.Core.Path.{_≡_, refl, sym, ap}
-use mathlib.Core.Logic.{inl, inr}
+use mathlib.Core.Logic.{_⊎_, inl, inr}
 use mathlib.Core.Bool.{Bool, true, false, _&&_, not}
 use mathlib.Core.List.{List, []}
 use Prim.Native.Nat.{ℕ, _≤_}
@@ -11,8 +11,8 @@ use native.Mathlib.Omega.{arith}
 use lib.Dec.{leb, eqb}
 use lib.ListN.{getD}
 use borrow.Author.Tests.{leb-true}
-use Rattle.record.specs.Partners.{isRbc, partnerOk}
-use Rattle.record.specs.Records.{eventOk, highestLevel, missionUnderWay, missionEnded, reading, readingOk}
+use Rattle.record.specs.Partners.{isRbc, partnerOk, reserved, namedOk}
+use Rattle.record.specs.Records.{eventOk, partnerEventOk, highestLevel, missionUnderWay, missionEnded, reading, readingOk}
 use Rattle.wire.specs.Refusals as refusal
 use Rattle.record.specs.declared.partner.Partner.{Partner}
 use Rattle.record.specs.declared.event.Cause.{Cause}
@@ -34,6 +34,8 @@ use Rattle.place.specs.declared.place.Place.{Place}
 use Rattle.place.specs.declared.limits.Limits.{Limits}
 use Rattle.place.specs.declared.turn.Closing.{Closing}
 use Rattle.place.specs.declared.turn.Closing.the-variants.{Every}
+use Rattle.unit.specs.Lasts.{meant}
+use Rattle.unit.proofs.Meant.{meant-named}
 use Rattle.unit.specs.States.{seek, nowhere, standing, trainOk, marksOk, sound}
 use Rattle.unit.specs.Steps.{Outcome, refusedAt, refused, done, withTrain, withMarks, markHole, holeTaken, inForce, spend, displaced, closePlaces, takenIn, admitted, orderedAt, calledAt, turnedAt, namedAt, step}
 use Rattle.unit.specs.Standings.{Numbered, Concern, nobody, orderTo, callOf, naming, concern, concernOf}
@@ -46,11 +48,16 @@ use Rattle.unit.specs.declared.search.Found.the-variants.{At, Vacant, Fu
 use Rattle.unit.specs.declared.search.Standing.{Standing}
 use Rattle.unit.proofs.Searches.{found-ok}
 
--- the numbers with which a step on an event may be refused, 4 to 9
+-- the numbers with which a step on an event may be refused, 4 to 9 and 15
 abbrev pub StepRefusal : ℕ → Type 0
-StepRefusal r = (refusal.notInForce ≤ r) × (r ≤ refusal.callFromRiu)
+StepRefusal r = ((refusal.notInForce ≤ r) × (r ≤ refusal.callFromRiu)) ⊎ (r ≡ refusal.noneKnown)
 
--- the numbers with which a step on a record may be refused, 1 to 11
+-- none of them is 0
+pub step-numbered : (r : ℕ) → StepRefusal r → r ≡ refusal.accepted → ⊥
+step-numbered r (inl within) none = omega arith
+step-numbered r (inr is) none = omega arith
+
+-- the numbers with which a record may be refused before it is stepped, 1 to 11
 abbrev pub RecordRefusal : ℕ → Type 0
 RecordRefusal r = (refusal.wrongLength ≤ r) × (r ≤ refusal.notSound)
 
@@ -90,37 +97,38 @@ told-none ps (callOf p) r five seven = silent five seven
 told-none ps (naming p e) r five seven = silent five seven
 
 -- the shapes of a step's outcome, by whom its event concerns
-pub data Shape (n : ℕ) (s : State) (e : Event) : Concern → Outcome → Type 0 where
+pub data Shape (s : State) (e : Event) : Concern → Outcome → Type 0 where
   -- "A refused step .. returns its number, the state as given, counts 0"
   refuses : {c : Concern} {w : Standing} (r : ℕ)
       → StepRefusal r
       → Told (s .places) c r w
-      → Shape n s e c (refusedAt r w s)
+      → Shape s e c (refusedAt r w s)
   -- train and marks noted
   notes : (t : Train) (m : Marks)
       → InRange s e t m
-      → Shape n s e nobody (done (withMarks (withTrain s t) m) [])
+      → Shape s e nobody (done (withMarks (withTrain s t) m) [])
   -- every place closed that is not Ending
   closesEvery : (t : Train)
       → InRange s e t (s .marks)
-      → Shape n s e nobody (closePlaces Every (withTrain s t))
+      → Shape s e nobody (closePlaces Every (withTrain s t))
   -- a partner taken in after a closing, at the place that was free before it
   orders : (p : Partner) (which : Closing) (m : Marks) (i : ℕ)
       → InRange s e (s .train) m
-      → (eventOk e ≡ true → partnerOk p ≡ true)
+      → (eventOk e ≡ true → namedOk p ≡ true)
       → seek p (s .places) ≡ Vacant i
-      → Shape n s e (orderTo p) (takenIn (closePlaces which (withMarks s m)) i p)
+      → Shape s e (orderTo p) (takenIn (closePlaces which (withMarks s m)) i p)
   -- an RBC that calls taken in
   calls : (p : Partner) (i : ℕ)
-      → (eventOk e ≡ true → partnerOk p ≡ true)
+      → (eventOk e ≡ true → namedOk p ≡ true)
       → isRbc p ≡ true
       → seek p (s .places) ≡ Vacant i
-      → Shape n s e (callOf p) (calledAt s p i)
+      → Shape s e (callOf p) (calledAt s p i)
   -- a turn of the place that a partner has
   turns : (p : Partner) (event : PartnerEvent) (i : ℕ) {ph : Phase}
+      → (eventOk e ≡ true → namedOk p ≡ true)
       → seek p (s .places) ≡ At i ph
-      → takes (holdingTurn n (s .limits) (getD (s .places) i vacant .holding) event) ≡ true
-      → Shape n s e (naming p event) (turnedAt s i p (holdingTurn n (s .limits) (getD (s .places) i vacant .holding) event))
+      → takes (holdingTurn (s .limits) (getD (s .places) i vacant .holding) event) ≡ true
+      → Shape s e (naming p event) (turnedAt s i p (holdingTurn (s .limits) (getD (s .places) i vacant .holding) event))
 
 -- "'inside a hole' and 'hole end' are not both 1", after an order's mark is cleared and after a hole
 spend-marks : (cause : Cause) (m : Marks) → marksOk m ≡ true → marksOk (spend cause m) ≡ true
@@ -139,48 +147,52 @@ hole-marks true = refl
 hole-marks false = refl
 
 -- the place that holds a partner turns by the phase that it was found in
-turn-held : (n : ℕ) (l : Limits) (e : PartnerEvent) (p : Partner) (ph : Phase) (k : Holding)
+turn-held : (l : Limits) (e : PartnerEvent) (p : Partner) (ph : Phase) (k : Holding)
     → holdsIn p k ≡ true
     → phaseHeld k ≡ ph
-    → turn n l ph e ≡ holdingTurn n l k e
-turn-held n l e p ph Free held is = true-false false held refl
-turn-held n l e p ph (Held d q r) held is = ap (λ x. turn n l x e) (sym is)
+    → turn l ph e ≡ holdingTurn l k e
+turn-held l e p ph Free held is = true-false false held refl
+turn-held l e p ph (Held d q r) held is = ap (λ x. turn l x e) (sym is)
 
-module _ (n : ℕ) (s : State) where
-  ordered-shape : (p : Partner) (accepting : Bool) (cause : Cause) (found : Found)
+module _ (s : State) where
+  ordered-shape : (q p : Partner) (accepting : Bool) (cause : Cause)
+      → (partnerOk q ≡ true → namedOk p ≡ true)
+      → (found : Found)
       → seek p (s .places) ≡ found
-      → Shape n s (Order p accepting cause) (orderTo p) (admitted s (orderedAt s p accepting cause) found)
-  ordered-shape p accepting cause (At i ph) found = refuses refusal.hasPlace (omega arith) (says i ph found (inl refl))
-  ordered-shape p accepting cause (Vacant i) found =
+      → Shape s (Order q accepting cause) (orderTo p) (admitted s (orderedAt s p accepting cause) found)
+  ordered-shape q p accepting cause named (At i ph) found = refuses refusal.hasPlace (inl (omega arith)) (says i ph found (inl refl))
+  ordered-shape q p accepting cause named (Vacant i) found =
       orders p (displaced p accepting) (spend cause (s .marks)) i
       (λ train marks ok. (train, spend-marks cause (s .marks) marks))
-      (λ ok. ok)
+      named
       found
-  ordered-shape p accepting cause Full found = refuses refusal.allTaken (omega arith) (told-none (s .places) (orderTo p) refusal.allTaken (λ h. omega arith) (λ h. omega arith))
+  ordered-shape q p accepting cause named Full found =
+      refuses refusal.allTaken (inl (omega arith))
+      (told-none (s .places) (orderTo p) refusal.allTaken (λ h. omega arith) (λ h. omega arith))
 
   called-shape : (p : Partner) → isRbc p ≡ true → (found : Found)
       → seek p (s .places) ≡ found
-      → Shape n s (Call p) (callOf p) (admitted s (calledAt s p) found)
-  called-shape p rbc (At i ph) found = refuses refusal.hasPlace (omega arith) (says i ph found (inl refl))
+      → Shape s (Call p) (callOf p) (admitted s (calledAt s p) found)
+  called-shape p rbc (At i ph) found = refuses refusal.hasPlace (inl (omega arith)) (says i ph found (inl refl))
   called-shape p rbc (Vacant i) found = calls p i (λ ok. ok) rbc found
-  called-shape p rbc Full found = refuses refusal.allTaken (omega arith) (told-none (s .places) (callOf p) refusal.allTaken (λ h. omega arith) (λ h. omega arith))
+  called-shape p rbc Full found = refuses refusal.allTaken (inl (omega arith)) (told-none (s .places) (callOf p) refusal.allTaken (λ h. omega arith) (λ h. omega arith))
 
   named-shape : (p : Partner) (e : PartnerEvent) (found : Found)
       → seek p (s .places) ≡ found
-      → Shape n s (Named p e) (naming p e) (namedAt n s p e found)
+      → Shape s (Named p e) (naming p e) (namedAt s p e found)
   named-shape p e (At i ph) found =
       let ok = found-ok p (s .places) (At i ph) found in
-      let same = turn-held n (s .limits) e p ph (getD (s .places) i vacant .holding) (ok .1) (ok .2) in
+      let same = turn-held (s .limits) e p ph (getD (s .places) i vacant .holding) (ok .1) (ok .2) in
       rw same (
-      cond-case (Shape n s (Named p e) (naming p e)) (takes (holdingTurn n (s .limits) (getD (s .places) i vacant .holding) e)) _ _
-      (λ taken. turns p e i found taken)
-      (λ other. refuses refusal.notTaken (omega arith) (says i ph found (inr refl)))
+      cond-case (Shape s (Named p e) (naming p e)) (takes (holdingTurn (s .limits) (getD (s .places) i vacant .holding) e)) _ _
+      (λ taken. turns p e i (and-left (namedOk p) (partnerEventOk e)) found taken)
+      (λ other. refuses refusal.notTaken (inl (omega arith)) (says i ph found (inr refl)))
       )
-  named-shape p e (Vacant i) found = refuses refusal.hasNone (omega arith) (told-none (s .places) (naming p e) refusal.hasNone (λ h. omega arith) (λ h. omega arith))
-  named-shape p e Full found = refuses refusal.hasNone (omega arith) (told-none (s .places) (naming p e) refusal.hasNone (λ h. omega arith) (λ h. omega arith))
+  named-shape p e (Vacant i) found = refuses refusal.hasNone (inl (omega arith)) (told-none (s .places) (naming p e) refusal.hasNone (λ h. omega arith) (λ h. omega arith))
+  named-shape p e Full found = refuses refusal.hasNone (inl (omega arith)) (told-none (s .places) (naming p e) refusal.hasNone (λ h. omega arith) (λ h. omega arith))
 
   -- every step has one of the shapes
-  pub shape : (e : Event) → Shape n s e (concern e) (step n s e)
+  pub shape : (e : Event) → Shape s e (concern (s .last) e) (step s e)
   unfolding step
   shape (Level level manual) =
       notes (record { level = level; mission = s .train .mission }) _
@@ -189,23 +201,30 @@ module _ (n : ℕ) (s : State) where
       let t : Train = record { level = s .train .level; mission = mission } in
       let within : InRange s (Mission mission) t (s .marks) =
       λ train marks ok. (and-both _ (leb mission missionUnderWay) (and-left (leb (s .train .level) highestLevel) _ train) ok, marks) in
-      cond-case (Shape n s (Mission mission) nobody) (eqb mission missionEnded) _ _
+      cond-case (Shape s (Mission mission) nobody) (eqb mission missionEnded) _ _
       (λ ended. closesEvery t within)
       (λ other. notes t (s .marks) within)
   shape Mode = notes (s .train) _ (λ train marks ok. (train, marks))
   shape (Hole entered) =
-      cond-case (Shape n s (Hole entered) nobody) (holeTaken (s .marks) entered) _ _
+      cond-case (Shape s (Hole entered) nobody) (holeTaken (s .marks) entered) _ _
       (λ taken. notes (s .train) (markHole (s .marks) entered) (λ train marks ok. (train, hole-marks entered)))
-      (λ other. refuses refusal.notTaken (omega arith) refl)
+      (λ other. refuses refusal.notTaken (inl (omega arith)) refl)
   shape (Order p accepting cause) =
-      cond-case (Shape n s (Order p accepting cause) (orderTo p)) (inForce cause (s .train) (s .marks)) _ _
-      (λ in-force. ordered-shape p accepting cause (seek p (s .places)) refl)
-      (λ other. refuses refusal.notInForce (omega arith) (told-none (s .places) (orderTo p) refusal.notInForce (λ h. omega arith) (λ h. omega arith)))
+      let q = meant (s .last) p in
+      cond-case (Shape s (Order p accepting cause) (orderTo q)) (inForce cause (s .train) (s .marks)) _ _
+      (λ in-force.
+      cond-case (Shape s (Order p accepting cause) (orderTo q)) (reserved q) _ _
+      (λ unknown.
+      refuses refusal.noneKnown (inr refl) (told-none (s .places) (orderTo q) refusal.noneKnown (λ h. omega arith) (λ h. omega arith)))
+      (λ known. ordered-shape p q accepting cause (meant-named (s .last) p known) (seek q (s .places)) refl))
+      (λ other.
+      refuses refusal.notInForce (inl (omega arith))
+      (told-none (s .places) (orderTo q) refusal.notInForce (λ h. omega arith) (λ h. omega arith)))
   shape EndAll = closesEvery (s .train) (λ train marks ok. (train, marks))
   shape (Call p) =
-      cond-case (Shape n s (Call p) (callOf p)) (isRbc p) _ _
+      cond-case (Shape s (Call p) (callOf p)) (isRbc p) _ _
       (λ rbc. called-shape p rbc (seek p (s .places)) refl)
-      (λ riu. refuses refusal.callFromRiu (omega arith) (told-none (s .places) (callOf p) refusal.callFromRiu (λ h. omega arith) (λ h. omega arith)))
+      (λ riu. refuses refusal.callFromRiu (inl (omega arith)) (told-none (s .places) (callOf p) refusal.callFromRiu (λ h. omega arith) (λ h. omega arith)))
   shape (Named p e) = named-shape p e (seek p (s .places)) refl
 
   -- a law of a step on a record, by what the record and the state are refused for
@@ -213,15 +232,15 @@ module _ (n : ℕ) (s : State) where
       → P (refused refusal.noRoom s)
       → P (refused refusal.notSound s)
       → ((r : ℕ) → reading bytes ≡ Refused r → refusal.wrongLength ≤ r → r ≤ refusal.outOfRange → P (refused r s))
-      → ((e : Event) → reading bytes ≡ Meant e → sound n s ≡ true → eventOk e ≡ true → P (step n s e))
-      → P (onRecord n s bytes room)
+      → ((e : Event) → reading bytes ≡ Meant e → sound s ≡ true → eventOk e ≡ true → P (step s e))
+      → P (onRecord s bytes room)
   unfolding onRecord
   by-reading P bytes room no-room not-sound unread steps =
       cond-case P (leb actionRoom room) _ _
-      (λ enough. cond-case P (sound n s) _ _ (by (reading bytes) refl (reading-ok bytes)) (λ unsound. not-sound))
+      (λ enough. cond-case P (sound s) _ _ (by (reading bytes) refl (reading-ok bytes)) (λ unsound. not-sound))
       (λ small. no-room)
     where
-      by : (r : Reading) → reading bytes ≡ r → readingOk r ≡ true → sound n s ≡ true → P (onReading n s r)
+      by : (r : Reading) → reading bytes ≡ r → readingOk r ≡ true → sound s ≡ true → P (onReading s r)
       by (Meant e) is ok good = steps e is good ok
       by (Refused r) is ok good =
           unread r is
@@ -231,8 +250,8 @@ module _ (n : ℕ) (s : State) where
   -- what holds of every refusal and of every step on an event holds of every record and room
   pub on-record : (P : Outcome → Type 0) (bytes : List ℕ) (room : ℕ)
       → ((r : ℕ) → RecordRefusal r → P (refused r s))
-      → ((e : Event) → reading bytes ≡ Meant e → sound n s ≡ true → eventOk e ≡ true → P (step n s e))
-      → P (onRecord n s bytes room)
+      → ((e : Event) → reading bytes ≡ Meant e → sound s ≡ true → eventOk e ≡ true → P (step s e))
+      → P (onRecord s bytes room)
   on-record P bytes room refusals =
       by-reading P bytes room (refusals refusal.noRoom (omega arith)) (refusals refusal.notSound (omega arith))
       (λ r is low high. refusals r (omega arith))
@@ -240,7 +259,8 @@ module _ (n : ℕ) (s : State) where
   -- the same of a law that goes by whom the record concerns
   pub by-concern : (P : Concern → Outcome → Type 0) (bytes : List ℕ) (room : ℕ)
       → ((c : Concern) (r : ℕ) → RecordRefusal r → P c (refused r s))
-      → ((e : Event) → P (concern e) (step n s e))
-      → P (concernOf (reading bytes)) (onRecord n s bytes room)
+      → ((e : Event) → P (concern (s .last) e) (step s e))
+      → P (concernOf (s .last) (reading bytes)) (onRecord s bytes room)
   by-concern P bytes room refusals steps =
-      on-record (P (concernOf (reading bytes))) bytes room (refusals (concernOf (reading bytes))) (λ e is good ok. rw is (steps e))
+      let c = concernOf (s .last) (reading bytes) in
+      on-record (P c) bytes room (refusals c) (λ e is good ok. rw is (steps e))

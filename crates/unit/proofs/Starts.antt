@@ -1,8 +1,9 @@
 -- The cold start by what the test of its limits showed, and what it gives.
--- Proves: started-by, cold-sound, cold-vacant.
+-- Proves: started-by, cold-sound, cold-limits, cold-vacant.
 use mathlib.Core.Path.{_≡_, refl, sym, ap, _∙_}
 use mathlib.Core.Bool.{Bool, true, false, cond}
 use Prim.Native.Nat.{ℕ, zero, suc}
+use native.Mathlib.Omega.{arith}
 use lib.ListN.{getD, replicate}
 use Rattle.wire.specs.Refusals.{accepted, badLimits}
 use Rattle.wire.proofs.Tests.{and-both, cond-case, cond-holds}
@@ -36,13 +37,23 @@ started-by l b t test known s fresh =
     by false = refl
 
 -- a cold start is sound, a refused one too
-pub cold-sound : (n : ℕ) (l : Limits) → sound n (coldStart l .state) ≡ true
+pub cold-sound : (l : Limits) → sound (coldStart l .state) ≡ true
 unfolding coldStart cold sound placesOk
-cold-sound n l =
-    cond-case (λ (o : Started). sound n (o .state) ≡ true) (limitsOk l) (record { code = accepted; state = cold l })
+cold-sound l =
+    cond-case (λ (o : Started). sound (o .state) ≡ true) (limitsOk l) (record { code = accepted; state = cold l })
     (record { code = badLimits; state = cold noLimits })
     (λ ok. and-both (limitsOk l) true ok refl)
     (λ bad. refl)
+
+-- one that is accepted has the limits that it was given
+pub cold-limits : (l : Limits) → coldStart l .code ≡ accepted → (coldStart l .state .limits ≡ l) × (limitsOk l ≡ true)
+unfolding coldStart cold
+cold-limits l =
+    cond-case (λ (o : Started). o .code ≡ accepted → (o .state .limits ≡ l) × (limitsOk l ≡ true)) (limitsOk l)
+    (record { code = accepted; state = cold l })
+    (record { code = badLimits; state = cold noLimits })
+    (λ ok given. (refl, ok))
+    (λ bad given. absurd (omega arith))
 
 -- its places are vacant
 pub cold-vacant : (l : Limits) (i : ℕ) → getD (coldStart l .state .places) i vacant ≡ vacant

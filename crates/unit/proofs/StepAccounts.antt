@@ -31,7 +31,7 @@ use Rattle.unit.specs.Standings.{Concern, nobody, orderTo, callOf, namin
 use Rattle.unit.specs.Kept.{count, once, weigh}
 use Rattle.unit.specs.declared.state.State.{State}
 use Rattle.unit.specs.declared.search.Found.the-variants.{Vacant}
-use Rattle.unit.proofs.Shapes.{Shape, refuses, notes, closesEvery, orders, calls, turns, shape}
+use Rattle.unit.proofs.Shapes.{Shape, refuses, notes, closesEvery, orders, calls, turns, shape, step-numbered}
 use Rattle.unit.proofs.Weights.{weigh-set, length-closed, closed-at}
 use Rattle.unit.proofs.Searches.{found-ok}
 use Rattle.unit.proofs.Counts.{count-append}
@@ -49,8 +49,8 @@ broughtTo σ mine (orderTo p) = cond (mine p) (σ .order) 0
 broughtTo σ mine (callOf p) = cond (mine p) (σ .call) 0
 broughtTo σ mine (naming p e) = cond (mine p) (brings σ e) 0
 
-abbrev pub brought : Scale → (Partner → Bool) → Event → ℕ
-brought σ mine e = broughtTo σ mine (concern e)
+abbrev pub brought : Scale → (Partner → Bool) → State → Event → ℕ
+brought σ mine s e = broughtTo σ mine (concern (s .last) e)
 
 -- the account of a step
 abbrev pub Account : Sense → Scale → (Partner → Bool) → State → ℕ → Outcome → Type 0
@@ -72,7 +72,7 @@ free-light : (σ : Scale) (mine : Partner → Bool) (k : Holding) → isFreeHold
 free-light σ mine Free h = refl
 free-light σ mine (Held d ph p) h = true-false false h refl
 
-module _ (m : Sense) (n : ℕ) (σ : Scale) (balanced : Balanced m n σ) (mine : Partner → Bool) where
+module _ (m : Sense) (σ : Scale) (mine : Partner → Bool) where
   -- a partner taken in at a free place
   taken-account : (ps : List Place) (i k b : ℕ) (d : Direction) (ph : Phase) (p : Partner)
       → i < length ps
@@ -90,7 +90,7 @@ module _ (m : Sense) (n : ℕ) (σ : Scale) (balanced : Balanced m n σ) (mine :
       by true = moved m (once (σ .counts k) + σ .weight ph) b _ _ (omega arith) refl h
       by false = level m ((0 + 0) + 0) 0 refl
 
-  module _ (s : State) where
+  module _ (s : State) (balanced : Balanced m (s .limits) σ) where
     -- a refusal does nothing and is brought nothing
     pub refused-account : (b r : ℕ) → (r ≡ refusal.accepted → ⊥) → Account m σ mine s b (refused r s)
     unfolding count
@@ -98,28 +98,28 @@ module _ (m : Sense) (n : ℕ) (σ : Scale) (balanced : Balanced m n σ) (mine :
         let none = ap (λ ok. cond ok b 0) (ne-eqb r refusal.accepted some) in
         level m _ _ (omega arith)
 
-    account : {e : Event} {c : Concern} {o : Outcome} → Shape n s e c o → Account m σ mine s (broughtTo σ mine c) o
+    account : {e : Event} {c : Concern} {o : Outcome} → Shape s e c o → Account m σ mine s (broughtTo σ mine c) o
     unfolding count
-    account (refuses {c = c} r may said) = refused-account (broughtTo σ mine c) r (λ none. omega arith)
+    account (refuses {c = c} r may said) = refused-account (broughtTo σ mine c) r (step-numbered r may)
     account (notes t marks within) = level m _ _ (omega arith)
-    account (closesEvery t within) = closedBy-account m σ mine n balanced Every (s .places)
+    account (closesEvery t within) = closedBy-account m σ mine (s .limits) balanced Every (s .places)
     account (orders p which marks i within ok found) =
         let ps = closed which (s .places) in
         let same = length-closed which (s .places) in
         let free = found-ok p (s .places) (Vacant i) found in
         rw (count-append (counted σ mine) (closingActions which (s .places)) (act p request ∷ []))
         (moved m _ _ _ _ refl (omega arith)
-        (followed m _ _ _ _ _ 0 _ (closedBy-account m σ mine n balanced which (s .places))
+        (followed m _ _ _ _ _ 0 _ (closedBy-account m σ mine (s .limits) balanced which (s .places))
         (taken-account ps i request (σ .order) Outgoing (Connecting firstTry) p (omega arith) (free-closed which (s .places) i (free .1))
         (balanced .ordered))))
     account (calls p i ok rbc found) =
         let free = found-ok p (s .places) (Vacant i) found in
         taken-account (s .places) i established (σ .call) Incoming Open p (free .0) (free .1) (balanced .called)
-    account (turns p event i found taken) =
+    account (turns p event i ok found taken) =
         let place = getD (s .places) i vacant in
         let at = found-ok p (s .places) _ found in
         stored m _ _ _ _ _ _ (weigh-set (weightOf σ mine) (s .places) i _ (at .0))
-        (held-account m σ mine n balanced (s .limits) p event (place .holding) (at .1))
+        (held-account m σ mine (s .limits) balanced p event (place .holding) (at .1))
 
-    pub step-account : (e : Event) → Account m σ mine s (brought σ mine e) (step n s e)
-    step-account e = account (shape n s e)
+    pub step-account : (e : Event) → Account m σ mine s (brought σ mine s e) (step s e)
+    step-account e = account (shape s e)

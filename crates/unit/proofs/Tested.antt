@@ -1,5 +1,5 @@
 -- Soundness of the places as the code tests it, from the lowest up.
--- Proves: absent-by, ok-end, ok-more, ok-bad, sound-four.
+-- Proves: absent-by, ok-end, ok-more, ok-bad, ok-twice, sound-four.
 use mathlib.Core.Path.{_≡_, refl, sym, ap, ap₂, _∙_}
 use mathlib.Core.Bool.{Bool, true, false, _&&_, not}
 use mathlib.Core.List.{List}
@@ -18,6 +18,8 @@ use Rattle.place.specs.declared.place.Direction.{Direction}
 use Rattle.place.specs.declared.place.Holding.{Holding}
 use Rattle.place.specs.declared.place.Holding.the-variants.{Held}
 use Rattle.place.specs.declared.place.Place.{Place}
+use Rattle.place.specs.declared.limits.Limits.{Limits}
+use Rattle.unit.specs.Lasts.{lastOk}
 use Rattle.unit.specs.States.{placeCount, first, limitsOk, trainOk, marksOk, absentFrom, placesOk, sound}
 use Rattle.unit.specs.declared.state.State.{State}
 use Rattle.unit.proofs.Searches.{some-first}
@@ -54,42 +56,46 @@ absent-by ps i k d ph p r held found below =
     ∙ ap not (sym (some-first (holds p) (drop (i + 1) ps)))
     ∙ sym (ap (absentFrom (drop (i + 1) ps)) held)
 
-module _ (n : ℕ) (ps : List Place) (i : ℕ) where
+module _ (l : Limits) (ps : List Place) (i : ℕ) where
   ok-drop :
       i < length ps
-      → placesOk n (drop i ps)
-      ≡ (placeOk n (getD ps i vacant) && (absentFrom (drop (i + 1) ps) (getD ps i vacant .holding) && placesOk n (drop (i + 1) ps)))
+      → placesOk l (drop i ps)
+      ≡ (placeOk l (getD ps i vacant) && (absentFrom (drop (i + 1) ps) (getD ps i vacant .holding) && placesOk l (drop (i + 1) ps)))
   unfolding placesOk
   ok-drop below = rw (add-one, drop-cons ps i vacant below)
 
-  module _ (so-far : placesOk n ps ≡ placesOk n (drop i ps)) where
+  module _ (so-far : placesOk l ps ≡ placesOk l (drop i ps)) where
     -- nothing left to test
-    pub ok-end : length ps ≤ i → true ≡ placesOk n ps
+    pub ok-end : length ps ≤ i → true ≡ placesOk l ps
     unfolding placesOk
-    ok-end above = sym (so-far ∙ ap (placesOk n) (drop-of-length-le ps above))
+    ok-end above = sym (so-far ∙ ap (placesOk l) (drop-of-length-le ps above))
 
-    module _ (b good absent : Bool) (test : b ≡ (good && absent)) (by-itself : good ≡ placeOk n (getD ps i vacant)) (alone : absent ≡ absentFrom (drop (i + 1) ps) (getD ps i vacant .holding)) (below : i < length ps) where
-      tested : placesOk n ps ≡ (good && (absent && placesOk n (drop (i + 1) ps)))
-      tested =
-          so-far ∙ ok-drop below ∙ sym (ap₂ (λ x y. x && (y && placesOk n (drop (i + 1) ps))) by-itself alone)
-
-      split : (x y z : Bool) → (x && (y && z)) ≡ ((x && y) && z)
-      split true y z = refl
-      split false y z = refl
-
+    module _ (below : i < length ps) where
       -- a place that passes leaves the rest to be tested
-      pub ok-more : b ≡ true → placesOk n ps ≡ placesOk n (drop (i + 1) ps)
-      ok-more passes =
-          tested ∙ split good absent _ ∙ ap (λ x. x && placesOk n (drop (i + 1) ps)) (sym test ∙ passes)
+      pub ok-more :
+          placeOk l (getD ps i vacant) ≡ true
+          → absentFrom (drop (i + 1) ps) (getD ps i vacant .holding) ≡ true
+          → placesOk l ps ≡ placesOk l (drop (i + 1) ps)
+      ok-more good alone = so-far ∙ ok-drop below ∙ ap₂ (λ x y. x && (y && placesOk l (drop (i + 1) ps))) good alone
 
-      -- one that fails settles it
-      pub ok-bad : b ≡ false → false ≡ placesOk n ps
-      ok-bad fails = sym (tested ∙ split good absent _ ∙ ap (λ x. x && placesOk n (drop (i + 1) ps)) (sym test ∙ fails))
+      -- one that is not sound by itself settles it
+      pub ok-bad : placeOk l (getD ps i vacant) ≡ false → false ≡ placesOk l ps
+      ok-bad bad =
+          let above = absentFrom (drop (i + 1) ps) (getD ps i vacant .holding) && placesOk l (drop (i + 1) ps) in
+          sym (so-far ∙ ok-drop below ∙ ap (λ x. x && above) bad)
+
+      -- so does one whose partner has a higher place
+      pub ok-twice :
+          placeOk l (getD ps i vacant) ≡ true
+          → absentFrom (drop (i + 1) ps) (getD ps i vacant .holding) ≡ false
+          → false ≡ placesOk l ps
+      ok-twice good twice = sym (so-far ∙ ok-drop below ∙ ap₂ (λ x y. x && (y && placesOk l (drop (i + 1) ps))) good twice)
 
 -- a state with four places is sound where its parts are
-pub sound-four : (n : ℕ) (s : State)
+pub sound-four : (s : State)
     → length (s .places) ≡ placeCount
-    → (limitsOk (s .limits) && (trainOk (s .train) && (marksOk (s .marks) && placesOk n (s .places)))) ≡ sound n s
+    → (limitsOk (s .limits) && (trainOk (s .train) && (marksOk (s .marks) && (placesOk (s .limits) (s .places) && lastOk (s .last))))) ≡ sound s
 unfolding sound
-sound-four n s four =
-    sym (ap (λ b. limitsOk (s .limits) && (trainOk (s .train) && (marksOk (s .marks) && (b && placesOk n (s .places))))) (eq-eqb (length (s .places)) placeCount four))
+sound-four s four =
+    let rest = placesOk (s .limits) (s .places) && lastOk (s .last) in
+    sym (ap (λ b. limitsOk (s .limits) && (trainOk (s .train) && (marksOk (s .marks) && (b && rest)))) (eq-eqb (length (s .places)) placeCount four))

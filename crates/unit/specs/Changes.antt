@@ -17,6 +17,7 @@ use lib.Dec.{eqb, ltb}
 use lib.ListN.{set}
 use Rattle.wire.specs.Refusals.{accepted}
 use Rattle.unit.specs.Forms.{mostActions, noAction}
+use Rattle.unit.specs.Lasts.{recalled}
 use Rattle.unit.specs.States.{placeCount}
 use Rattle.place.specs.Places.{vacant}
 use Rattle.place.specs.Table.{numbers}
@@ -53,9 +54,16 @@ closesAny Every = true
 closesAny Sessions = true
 closesAny Nothing = false
 
--- the state with the train, the marks and the place that a change names; past the last place it sets none
+-- the state with the train, the marks and the place that a change names, and the RBC of its actions; past the last place it sets none
 unfoldable pub settled : State → Change → State
-settled s c = record { limits = s .limits; train = c .train; marks = c .marks; places = set (s .places) (c .at) (c .place) }
+settled s c =
+    record {
+      limits = s .limits;
+      train = c .train;
+      marks = c .marks;
+      places = set (s .places) (c .at) (c .place);
+      last = recalled (s .last) (map (act (c .partner)) (numbers (c .turn)));
+    }
 
 -- what a change makes of a state: first the closings, then the place and the actions of its turn
 unfoldable pub made : State → Change → Outcome

@@ -1,21 +1,23 @@
--- Document 01, "Marked examples": P1 to P10, "X 1 to 2".
+-- Document 01, "Marked examples": P1 to P10, "X 1 to 2"; and lines on the meant partner of request Q-2.
 -- A line is one record's bytes, and what it gives: 0 or the refusal, the actions in their order, the whole state after it, and, of
 -- request Q-6, the place and phase where it carries them.
--- Defines: Line, examples, got, want.
+-- Defines: Line, meantLines, examples, got, want.
 use Prim.Native.Nat.{ℕ}
 use mathlib.Core.Bool.{true, false}
 use mathlib.Core.List.{List, [], _∷_, _++_, map}
 use lib.ListN.{length, drop, replicate}
 use Rattle.record.specs.Partners.{rbc, riu}
 use Rattle.record.specs.declared.partner.Partner.{Partner}
-use Rattle.place.specs.Places.{tryLimit, vacant, seat}
+use Rattle.place.specs.Places.{fleetTries, vacant, seat}
 use Rattle.place.specs.declared.phase.Phase.{Phase}
-use Rattle.place.specs.declared.phase.Phase.the-variants.{Connecting, Contacting, Open, Ending}
+use Rattle.place.specs.declared.phase.Phase.the-variants.{Connecting, Contacting, Open, Lost, Ending}
 use Rattle.place.specs.declared.place.Direction.the-variants.{Outgoing, Incoming}
 use Rattle.place.specs.declared.place.Place.{Place}
+use Rattle.place.specs.declared.limits.Limits.{Limits}
 use Rattle.unit.specs.States.{coldStart, noMarks, placeCount, nowhere}
 use Rattle.unit.specs.Steps.{Outcome, refusedAt, done, act}
 use Rattle.unit.specs.OnRecords.{trace}
+use Rattle.unit.specs.declared.last.Last.the-variants.{Unknown, Known}
 use Rattle.unit.specs.declared.state.Marks.{Marks}
 use Rattle.unit.specs.declared.state.State.{State}
 use Rattle.unit.specs.declared.answer.Action.{Action}
@@ -27,6 +29,14 @@ rbcNo k = record { kind = rbc; high = 0; middle = 0; low = k }
 abbrev riuNo : ℕ → Partner
 riuNo k = record { kind = riu; high = 0; middle = 0; low = k }
 
+-- the RIU whose number has the low 14 bits 16,383
+abbrev riuLast : Partner
+riuLast = record { kind = riu; high = 0; middle = 63; low = 255 }
+
+-- the RBC with the number below the reserved one
+abbrev rbcNear : Partner
+rbcNear = record { kind = rbc; high = 0; middle = 63; low = 254 }
+
 -- a place with an outgoing connection, and one with an incoming
 abbrev out : Phase → Partner → Place
 out ph p = seat Outgoing ph p
@@ -34,15 +44,25 @@ out ph p = seat Outgoing ph p
 abbrev inc : Phase → Partner → Place
 inc ph p = seat Incoming ph p
 
--- the box with its level, mission, marks and first places; the other places are free
+-- "X 1 to 2", and the number of tries that "all cases of 01 relied on"
+abbrev limits : Limits
+limits = record { lowest = 1; highest = 2; tries = fleetTries }
+
+-- the box with its level, mission, marks and first places; the other places are free, and no RBC is known
 abbrev box : ℕ → ℕ → Marks → List Place → State
 box level mission marks places =
     record {
-      limits = record { lowest = 1; highest = 2 };
+      limits = limits;
       train = record { level = level; mission = mission };
       marks = marks;
       places = places ++ drop (length places) (replicate placeCount vacant);
+      last = Unknown;
     }
+
+-- the same box with "RBC k" as the last known
+infix 5 _knowing_
+abbrev _knowing_ : State → ℕ → State
+_knowing_ s k = record { limits = s .limits; train = s .train; marks = s .marks; places = s .places; last = Known 0 0 k }
 
 -- level 0, mission ended, no mark
 abbrev idle : List Place → State
@@ -83,9 +103,9 @@ p1 : List Line
 p1 =
     ((5 ∷ 0 ∷ 0 ∷ 0 ∷ 5 ∷ 1 ∷ 1 ∷ []) sends (21 to rbcNo 5 ∷ []) leaves idle (out (Connecting 1) (rbcNo 5) ∷ []))
     ∷ ((8 ∷ 0 ∷ 0 ∷ 0 ∷ 5 ∷ []) sends (155 to rbcNo 5 ∷ []) leaves idle (out (Contacting 1) (rbcNo 5) ∷ []))
-    ∷ ((11 ∷ 0 ∷ 0 ∷ 0 ∷ 5 ∷ 32 ∷ 17 ∷ []) sends (159 to rbcNo 5 ∷ []) leaves idle (out Open (rbcNo 5) ∷ []))
-    ∷ ((6 ∷ 0 ∷ 0 ∷ 0 ∷ 5 ∷ []) sends (156 to rbcNo 5 ∷ []) leaves idle (out (Ending 1) (rbcNo 5) ∷ []))
-    ∷ ((11 ∷ 0 ∷ 0 ∷ 0 ∷ 5 ∷ 39 ∷ 0 ∷ []) sends (22 to rbcNo 5 ∷ []) leaves idle [])
+    ∷ ((11 ∷ 0 ∷ 0 ∷ 0 ∷ 5 ∷ 32 ∷ 17 ∷ []) sends (159 to rbcNo 5 ∷ []) leaves idle (out Open (rbcNo 5) ∷ []) knowing 5)
+    ∷ ((6 ∷ 0 ∷ 0 ∷ 0 ∷ 5 ∷ []) sends (156 to rbcNo 5 ∷ []) leaves idle (out (Ending 1) (rbcNo 5) ∷ []) knowing 5)
+    ∷ ((11 ∷ 0 ∷ 0 ∷ 0 ∷ 5 ∷ 39 ∷ 0 ∷ []) sends (22 to rbcNo 5 ∷ []) leaves idle [] knowing 5)
     ∷ []
 
 -- "P2 order, cause 1, then three timeouts: 21, 21, 21, 22; free."
@@ -111,19 +131,19 @@ p4 =
     ((5 ∷ 0 ∷ 0 ∷ 0 ∷ 5 ∷ 1 ∷ 1 ∷ []) sends (21 to rbcNo 5 ∷ []) leaves idle (out (Connecting 1) (rbcNo 5) ∷ []))
     ∷ ((8 ∷ 0 ∷ 0 ∷ 0 ∷ 5 ∷ []) sends (155 to rbcNo 5 ∷ []) leaves idle (out (Contacting 1) (rbcNo 5) ∷ []))
     ∷ ((11 ∷ 0 ∷ 0 ∷ 0 ∷ 5 ∷ 32 ∷ 128 ∷ []) gives 3 leaves idle (out (Contacting 1) (rbcNo 5) ∷ []))
-    ∷ ((11 ∷ 0 ∷ 0 ∷ 0 ∷ 5 ∷ 32 ∷ 47 ∷ []) sends (159 to rbcNo 5 ∷ []) leaves idle (out Open (rbcNo 5) ∷ []))
+    ∷ ((11 ∷ 0 ∷ 0 ∷ 0 ∷ 5 ∷ 32 ∷ 47 ∷ []) sends (159 to rbcNo 5 ∷ []) leaves idle (out Open (rbcNo 5) ∷ []) knowing 5)
     ∷ []
 
 -- the four calls of P5 taken
 abbrev called : State
-called = idle (inc Open (rbcNo 1) ∷ inc Open (rbcNo 2) ∷ inc Open (rbcNo 3) ∷ inc Open (rbcNo 4) ∷ [])
+called = idle (inc Open (rbcNo 1) ∷ inc Open (rbcNo 2) ∷ inc Open (rbcNo 3) ∷ inc Open (rbcNo 4) ∷ []) knowing 4
 
 -- "P5 four calls 38 from RBC 1 to 4; RBC 5 gets 8, RBC 1 gets 5."
 p5 : List Line
 p5 =
-    ((11 ∷ 0 ∷ 0 ∷ 0 ∷ 1 ∷ 38 ∷ 0 ∷ []) sends (159 to rbcNo 1 ∷ []) leaves idle (inc Open (rbcNo 1) ∷ []))
-    ∷ ((11 ∷ 0 ∷ 0 ∷ 0 ∷ 2 ∷ 38 ∷ 0 ∷ []) sends (159 to rbcNo 2 ∷ []) leaves idle (inc Open (rbcNo 1) ∷ inc Open (rbcNo 2) ∷ []))
-    ∷ ((11 ∷ 0 ∷ 0 ∷ 0 ∷ 3 ∷ 38 ∷ 0 ∷ []) sends (159 to rbcNo 3 ∷ []) leaves idle (inc Open (rbcNo 1) ∷ inc Open (rbcNo 2) ∷ inc Open (rbcNo 3) ∷ []))
+    ((11 ∷ 0 ∷ 0 ∷ 0 ∷ 1 ∷ 38 ∷ 0 ∷ []) sends (159 to rbcNo 1 ∷ []) leaves idle (inc Open (rbcNo 1) ∷ []) knowing 1)
+    ∷ ((11 ∷ 0 ∷ 0 ∷ 0 ∷ 2 ∷ 38 ∷ 0 ∷ []) sends (159 to rbcNo 2 ∷ []) leaves idle (inc Open (rbcNo 1) ∷ inc Open (rbcNo 2) ∷ []) knowing 2)
+    ∷ ((11 ∷ 0 ∷ 0 ∷ 0 ∷ 3 ∷ 38 ∷ 0 ∷ []) sends (159 to rbcNo 3 ∷ []) leaves idle (inc Open (rbcNo 1) ∷ inc Open (rbcNo 2) ∷ inc Open (rbcNo 3) ∷ []) knowing 3)
     ∷ ((11 ∷ 0 ∷ 0 ∷ 0 ∷ 4 ∷ 38 ∷ 0 ∷ []) sends (159 to rbcNo 4 ∷ []) leaves called)
     ∷ ((11 ∷ 0 ∷ 0 ∷ 0 ∷ 5 ∷ 38 ∷ 0 ∷ []) gives 8 leaves called)
     ∷ ((11 ∷ 0 ∷ 0 ∷ 0 ∷ 1 ∷ 38 ∷ 0 ∷ []) says 5 at 0 phase 3 leaves called)
@@ -136,11 +156,11 @@ p6 = p5 ++ (((11 ∷ 1 ∷ 0 ∷ 0 ∷ 1 ∷ 38 ∷ 0 ∷ []) gives 9 leaves cal
 -- "P7 RBC 1 Open in place 0, RIU 2 Open in place 1; order RBC 3, accepting 0, cause 1: 156:0/1, then 21:0/3."
 p7 : List Line
 p7 =
-    ((11 ∷ 0 ∷ 0 ∷ 0 ∷ 1 ∷ 38 ∷ 0 ∷ []) sends (159 to rbcNo 1 ∷ []) leaves idle (inc Open (rbcNo 1) ∷ []))
-    ∷ ((5 ∷ 1 ∷ 0 ∷ 0 ∷ 2 ∷ 1 ∷ 1 ∷ []) sends (21 to riuNo 2 ∷ []) leaves idle (inc Open (rbcNo 1) ∷ out (Connecting 1) (riuNo 2) ∷ []))
-    ∷ ((8 ∷ 1 ∷ 0 ∷ 0 ∷ 2 ∷ []) sends (155 to riuNo 2 ∷ []) leaves idle (inc Open (rbcNo 1) ∷ out (Contacting 1) (riuNo 2) ∷ []))
-    ∷ ((11 ∷ 1 ∷ 0 ∷ 0 ∷ 2 ∷ 32 ∷ 17 ∷ []) sends (159 to riuNo 2 ∷ []) leaves idle (inc Open (rbcNo 1) ∷ out Open (riuNo 2) ∷ []))
-    ∷ ((5 ∷ 0 ∷ 0 ∷ 0 ∷ 3 ∷ 0 ∷ 1 ∷ []) sends (156 to rbcNo 1 ∷ 21 to rbcNo 3 ∷ []) leaves idle (inc (Ending 1) (rbcNo 1) ∷ out Open (riuNo 2) ∷ out (Connecting 1) (rbcNo 3) ∷ []))
+    ((11 ∷ 0 ∷ 0 ∷ 0 ∷ 1 ∷ 38 ∷ 0 ∷ []) sends (159 to rbcNo 1 ∷ []) leaves idle (inc Open (rbcNo 1) ∷ []) knowing 1)
+    ∷ ((5 ∷ 1 ∷ 0 ∷ 0 ∷ 2 ∷ 1 ∷ 1 ∷ []) sends (21 to riuNo 2 ∷ []) leaves idle (inc Open (rbcNo 1) ∷ out (Connecting 1) (riuNo 2) ∷ []) knowing 1)
+    ∷ ((8 ∷ 1 ∷ 0 ∷ 0 ∷ 2 ∷ []) sends (155 to riuNo 2 ∷ []) leaves idle (inc Open (rbcNo 1) ∷ out (Contacting 1) (riuNo 2) ∷ []) knowing 1)
+    ∷ ((11 ∷ 1 ∷ 0 ∷ 0 ∷ 2 ∷ 32 ∷ 17 ∷ []) sends (159 to riuNo 2 ∷ []) leaves idle (inc Open (rbcNo 1) ∷ out Open (riuNo 2) ∷ []) knowing 1)
+    ∷ ((5 ∷ 0 ∷ 0 ∷ 0 ∷ 3 ∷ 0 ∷ 1 ∷ []) sends (156 to rbcNo 1 ∷ 21 to rbcNo 3 ∷ []) leaves idle (inc (Ending 1) (rbcNo 1) ∷ out Open (riuNo 2) ∷ out (Connecting 1) (rbcNo 3) ∷ []) knowing 1)
     ∷ []
 
 -- "P8 mission 1, cause 0: level 1 gives 4, level 2 gives 21."
@@ -172,22 +192,60 @@ p10 =
     ∷ ((8 ∷ 0 ∷ 0 ∷ 0 ∷ 5 ∷ []) sends (155 to rbcNo 5 ∷ []) leaves idle (out (Contacting 1) (rbcNo 5) ∷ []))
     ∷ ((10 ∷ 0 ∷ 0 ∷ 0 ∷ 5 ∷ []) sends (155 to rbcNo 5 ∷ []) leaves idle (out (Contacting 2) (rbcNo 5) ∷ []))
     ∷ ((10 ∷ 0 ∷ 0 ∷ 0 ∷ 5 ∷ []) sends (155 to rbcNo 5 ∷ []) leaves idle (out (Contacting 3) (rbcNo 5) ∷ []))
-    ∷ ((11 ∷ 0 ∷ 0 ∷ 0 ∷ 5 ∷ 32 ∷ 17 ∷ []) sends (159 to rbcNo 5 ∷ []) leaves idle (out Open (rbcNo 5) ∷ []))
-    ∷ ((6 ∷ 0 ∷ 0 ∷ 0 ∷ 5 ∷ []) sends (156 to rbcNo 5 ∷ []) leaves idle (out (Ending 1) (rbcNo 5) ∷ []))
-    ∷ ((10 ∷ 0 ∷ 0 ∷ 0 ∷ 5 ∷ []) sends (156 to rbcNo 5 ∷ []) leaves idle (out (Ending 2) (rbcNo 5) ∷ []))
-    ∷ ((10 ∷ 0 ∷ 0 ∷ 0 ∷ 5 ∷ []) sends (156 to rbcNo 5 ∷ []) leaves idle (out (Ending 3) (rbcNo 5) ∷ []))
-    ∷ ((11 ∷ 0 ∷ 0 ∷ 0 ∷ 5 ∷ 39 ∷ 0 ∷ []) sends (22 to rbcNo 5 ∷ []) leaves idle [])
+    ∷ ((11 ∷ 0 ∷ 0 ∷ 0 ∷ 5 ∷ 32 ∷ 17 ∷ []) sends (159 to rbcNo 5 ∷ []) leaves idle (out Open (rbcNo 5) ∷ []) knowing 5)
+    ∷ ((6 ∷ 0 ∷ 0 ∷ 0 ∷ 5 ∷ []) sends (156 to rbcNo 5 ∷ []) leaves idle (out (Ending 1) (rbcNo 5) ∷ []) knowing 5)
+    ∷ ((10 ∷ 0 ∷ 0 ∷ 0 ∷ 5 ∷ []) sends (156 to rbcNo 5 ∷ []) leaves idle (out (Ending 2) (rbcNo 5) ∷ []) knowing 5)
+    ∷ ((10 ∷ 0 ∷ 0 ∷ 0 ∷ 5 ∷ []) sends (156 to rbcNo 5 ∷ []) leaves idle (out (Ending 3) (rbcNo 5) ∷ []) knowing 5)
+    ∷ ((11 ∷ 0 ∷ 0 ∷ 0 ∷ 5 ∷ 39 ∷ 0 ∷ []) sends (22 to rbcNo 5 ∷ []) leaves idle [] knowing 5)
     ∷ []
 
--- all of them
+-- Q-2: none known: 15, but 4 before it, and 3 before that. After a call of RBC 1 and its end, an order to RBC 16,383 means RBC 1: taken in
+-- (here with upper bits set), and then refused with 5. Another event that names it: 3. An RIU with that number is any RIU, and RBC 16,382
+-- is any RBC.
+knownThen : List Line
+knownThen =
+    ((5 ∷ 0 ∷ 0 ∷ 63 ∷ 255 ∷ 1 ∷ 1 ∷ []) gives 15 leaves idle [])
+    ∷ ((5 ∷ 0 ∷ 0 ∷ 63 ∷ 255 ∷ 1 ∷ 4 ∷ []) gives 4 leaves idle [])
+    ∷ ((5 ∷ 0 ∷ 0 ∷ 63 ∷ 255 ∷ 1 ∷ 5 ∷ []) gives 3 leaves idle [])
+    ∷ ((11 ∷ 0 ∷ 0 ∷ 0 ∷ 1 ∷ 38 ∷ 0 ∷ []) sends (159 to rbcNo 1 ∷ []) leaves idle (inc Open (rbcNo 1) ∷ []) knowing 1)
+    ∷ ((9 ∷ 0 ∷ 0 ∷ 0 ∷ 1 ∷ []) sends (21 to rbcNo 1 ∷ []) leaves idle (inc (Lost 1) (rbcNo 1) ∷ []) knowing 1)
+    ∷ ((6 ∷ 0 ∷ 0 ∷ 0 ∷ 1 ∷ []) sends (22 to rbcNo 1 ∷ []) leaves idle [] knowing 1)
+    ∷ ((5 ∷ 0 ∷ 255 ∷ 127 ∷ 255 ∷ 1 ∷ 1 ∷ []) sends (21 to rbcNo 1 ∷ []) leaves idle (out (Connecting 1) (rbcNo 1) ∷ []) knowing 1)
+    ∷ ((5 ∷ 0 ∷ 0 ∷ 63 ∷ 255 ∷ 1 ∷ 1 ∷ []) says 5 at 0 phase 1 leaves idle (out (Connecting 1) (rbcNo 1) ∷ []) knowing 1)
+    ∷ ((8 ∷ 0 ∷ 0 ∷ 127 ∷ 255 ∷ []) gives 3 leaves idle (out (Connecting 1) (rbcNo 1) ∷ []) knowing 1)
+    ∷ ((5 ∷ 1 ∷ 0 ∷ 63 ∷ 255 ∷ 1 ∷ 1 ∷ []) sends (21 to riuLast ∷ []) leaves idle (out (Connecting 1) (rbcNo 1) ∷ out (Connecting 1) riuLast ∷ []) knowing 1)
+    ∷ ((5 ∷ 0 ∷ 0 ∷ 63 ∷ 254 ∷ 1 ∷ 1 ∷ []) sends (21 to rbcNear ∷ []) leaves idle (out (Connecting 1) (rbcNo 1) ∷ out (Connecting 1) riuLast ∷ out (Connecting 1) rbcNear ∷ []) knowing 1)
+    ∷ []
+
+-- the four places taken by orders
+abbrev ordered : State
+ordered =
+    idle (out (Connecting 1) (rbcNo 1) ∷ out (Connecting 1) (rbcNo 2) ∷ out (Connecting 1) (rbcNo 3) ∷ out (Connecting 1) (rbcNo 4) ∷ [])
+
+-- 15 comes before 8: all places taken, and none known
+fullThen : List Line
+fullThen =
+    ((5 ∷ 0 ∷ 0 ∷ 0 ∷ 1 ∷ 1 ∷ 1 ∷ []) sends (21 to rbcNo 1 ∷ []) leaves idle (out (Connecting 1) (rbcNo 1) ∷ []))
+    ∷ ((5 ∷ 0 ∷ 0 ∷ 0 ∷ 2 ∷ 1 ∷ 1 ∷ []) sends (21 to rbcNo 2 ∷ []) leaves idle (out (Connecting 1) (rbcNo 1) ∷ out (Connecting 1) (rbcNo 2) ∷ []))
+    ∷ ((5 ∷ 0 ∷ 0 ∷ 0 ∷ 3 ∷ 1 ∷ 1 ∷ []) sends (21 to rbcNo 3 ∷ []) leaves idle (out (Connecting 1) (rbcNo 1) ∷ out (Connecting 1) (rbcNo 2) ∷ out (Connecting 1) (rbcNo 3) ∷ []))
+    ∷ ((5 ∷ 0 ∷ 0 ∷ 0 ∷ 4 ∷ 1 ∷ 1 ∷ []) sends (21 to rbcNo 4 ∷ []) leaves ordered)
+    ∷ ((5 ∷ 0 ∷ 0 ∷ 63 ∷ 255 ∷ 1 ∷ 1 ∷ []) gives 15 leaves ordered)
+    ∷ []
+
+-- both
+unfoldable pub meantLines : List (List Line)
+unfolding knownThen fullThen
+meantLines = knownThen ∷ fullThen ∷ []
+
+-- P1 to P10
 unfoldable pub examples : List (List Line)
 unfolding p1 p2 p3 p4 p5 p6 p7 p8 p9 p10
 examples = p1 ∷ p2 ∷ p3 ∷ p4 ∷ p5 ∷ p6 ∷ p7 ∷ p8 ∷ p9 ∷ p10 ∷ []
 
--- what the defined step on records makes of an example's bytes, from a cold start with X 1 to 2
+-- what the defined step on records makes of an example's bytes, from a cold start with X 1 to 2 and three tries
 unfoldable pub got : List Line → List Outcome
-got lines = trace tryLimit (coldStart (record { lowest = 1; highest = 2 }) .state) (map (λ l. l .bytes) lines)
+got lines = trace (coldStart limits .state) (map (λ l. l .bytes) lines)
 
--- what 01 says
+-- what the documents say
 unfoldable pub want : List Line → List Outcome
 want lines = map (λ l. l .gives) lines

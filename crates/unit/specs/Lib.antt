@@ -1,3 +1,4 @@
+pub mod Lasts
 pub mod Standings
 pub mod States
 pub mod Steps

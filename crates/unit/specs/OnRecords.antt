@@ -24,24 +24,24 @@ abbrev pub actionSize : ℕ
 actionSize = 5
 
 -- a record that is refused changes nothing; one that means an event is stepped
-abbrev pub onReading : ℕ → State → Reading → Outcome
-onReading n s (Meant e) = step n s e
-onReading n s (Refused r) = refused r s
+abbrev pub onReading : State → Reading → Outcome
+onReading s (Meant e) = step s e
+onReading s (Refused r) = refused r s
 
 -- "11, then 1 (empty), 2, 1 (length), 3; then .."
-abbrev pub applied : ℕ → State → List ℕ → Outcome
-applied n s bytes = cond (sound n s) (onReading n s (reading bytes)) (refused notSound s)
+abbrev pub applied : State → List ℕ → Outcome
+applied s bytes = cond (sound s) (onReading s (reading bytes)) (refused notSound s)
 
 -- "Step: 10, 11, ..": room is the length of the action buffer
-unfoldable pub onRecord : ℕ → State → List ℕ → ℕ → Outcome
-onRecord n s bytes room = cond (leb actionRoom room) (applied n s bytes) (refused noRoom s)
+unfoldable pub onRecord : State → List ℕ → ℕ → Outcome
+onRecord s bytes room = cond (leb actionRoom room) (applied s bytes) (refused noRoom s)
 
 -- the outcomes of a history, "a row of event records, each given 20 bytes for its actions"
-unfoldable pub trace : ℕ → State → List (List ℕ) → List Outcome
-trace n s [] = []
-trace n s (bytes ∷ history) =
-    let o : Outcome = onRecord n s bytes actionRoom in
-    o ∷ trace n (o .state) history
+unfoldable pub trace : State → List (List ℕ) → List Outcome
+trace s [] = []
+trace s (bytes ∷ history) =
+    let o : Outcome = onRecord s bytes actionRoom in
+    o ∷ trace (o .state) history
 
 -- the five bytes of an action
 abbrev pub bytesOf : Action → List ℕ

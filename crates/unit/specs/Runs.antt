@@ -7,7 +7,7 @@ use mathlib.Core.List.{List, [], _∷_}
 use lib.Dec.{eqb, leb}
 use lib.ListN.{length, take, drop}
 use Rattle.record.specs.Takes.{nothingLeft, budgetUsed, longestLog, taken, onTaken}
-use Rattle.wire.specs.Refusals.{accepted, outOfRange, callFromRiu, notSound, logTooLong}
+use Rattle.wire.specs.Refusals.{accepted, outOfRange, callFromRiu, notSound, logTooLong, noneKnown}
 use Rattle.place.specs.Table.{request, release, incompatible, initiate, terminate, established}
 use Rattle.unit.specs.States.{sound}
 use Rattle.unit.specs.Steps.{Outcome}
@@ -25,20 +25,20 @@ pub data Course : Type 0 where
 
 -- "Before each record, in order: nothing left ..; budget used up ..; kind unknown ..; fewer bytes"; Q-8: "The run is then the two in
 -- turn": a record is taken off the front and applied, given 20 bytes for its actions, and so on from there
-unfoldable pub course : ℕ → ℕ → State → List ℕ → Course
-course n zero s [] = stops nothingLeft
-course n zero s (kind ∷ rest) = stops budgetUsed
-course n (suc budget) s log =
+unfoldable pub course : ℕ → State → List ℕ → Course
+course zero s [] = stops nothingLeft
+course zero s (kind ∷ rest) = stops budgetUsed
+course (suc budget) s log =
     onTaken (taken log) stops
-    (λ k. let o : Outcome = onRecord n s (take k log) actionRoom in applies (take k log) o (course n budget (o .state) (drop k log)))
+    (λ k. let o : Outcome = onRecord s (take k log) actionRoom in applies (take k log) o (course budget (o .state) (drop k log)))
 
 -- its steps: "Records read are the steps taken"
 unfoldable pub stepsOf : Course → List Outcome
 stepsOf (stops stop) = []
 stepsOf (applies bytes o rest) = o ∷ stepsOf rest
 
-abbrev pub steps : ℕ → ℕ → State → List ℕ → List Outcome
-steps n budget s log = stepsOf (course n budget s log)
+abbrev pub steps : ℕ → State → List ℕ → List Outcome
+steps budget s log = stepsOf (course budget s log)
 
 -- how many of the actions have this number
 unfoldable pub totalOf : ℕ → List Action → ℕ
@@ -64,7 +64,7 @@ totalled t acts =
 abbrev pub fresh : State → Tally
 fresh s = record { state = s; offset = 0; read = 0; refused = 0; totals = noTotals }
 
--- "A record refused with 3 to 9 is counted, changes nothing, and the run goes on": as read, and as refused
+-- "A record refused with 3 to 9", or 15, "is counted, changes nothing, and the run goes on": as read, and as refused
 unfoldable pub counted : Tally → ℕ → Outcome → Tally
 counted t k o =
     record {
@@ -85,31 +85,31 @@ tallied t (stops stop) = ended t stop
 tallied t (applies bytes o rest) = tallied (counted t (length bytes) o) rest
 
 -- the rest of a run, with what is left of the budget and of the log
-abbrev pub go : ℕ → ℕ → Tally → List ℕ → Report
-go n budget t log = tallied t (course n budget (t .state) log)
+abbrev pub go : ℕ → Tally → List ℕ → Report
+go budget t log = tallied t (course budget (t .state) log)
 
 -- "A refused .. run .. returns its number, the state as given, counts 0 (a run's stop and offset too)"
 abbrev pub runRefused : ℕ → State → Report
 runRefused r s = record { code = r; stop = 0; tally = fresh s }
 
 -- "Run: 12, 11"
-unfoldable pub run : ℕ → State → List ℕ → ℕ → Report
-run n s log budget =
-    cond (leb (length log) longestLog) (cond (sound n s) (go n budget (fresh s) log) (runRefused notSound s))
+unfoldable pub run : State → List ℕ → ℕ → Report
+run s log budget =
+    cond (leb (length log) longestLog) (cond (sound s) (go budget (fresh s) log) (runRefused notSound s))
     (runRefused logTooLong s)
 
 -- the run of so many records taken up where a run of m records came to
-abbrev pub takenUp : ℕ → State → List ℕ → ℕ → ℕ → Report
-takenUp n s log m b = run n (run n s log m .tally .state) (drop (run n s log m .tally .offset) log) b
+abbrev pub takenUp : State → List ℕ → ℕ → ℕ → Report
+takenUp s log m b = run (run s log m .tally .state) (drop (run s log m .tally .offset) log) b
 
 -- the sum over steps of what each counts for
 unfoldable pub sumOf : (Outcome → ℕ) → List Outcome → ℕ
 sumOf w [] = 0
 sumOf w (o ∷ os) = w o + sumOf w os
 
--- "A record refused with 3 to 9": the numbers that a step of a run may have
+-- "A record refused with 3 to 9", and of Q-2 15, "counted by the run like 3 to 9": the numbers that a step of a run may have
 abbrev pub runCode : ℕ → Bool
-runCode code = eqb code accepted || (leb outOfRange code && leb code callFromRiu)
+runCode code = eqb code accepted || ((leb outOfRange code && leb code callFromRiu) || eqb code noneKnown)
 
 unfoldable pub allCodes : List Outcome → Bool
 allCodes [] = true

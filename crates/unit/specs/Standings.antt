@@ -16,7 +16,9 @@ use Rattle.record.specs.declared.event.Reading.{Reading}
 use Rattle.record.specs.declared.event.Reading.the-variants.{Meant, Refused}
 use Rattle.place.specs.Places.{phaseNumber, vacant, heldPhase, holds}
 use Rattle.place.specs.declared.place.Place.{Place}
+use Rattle.unit.specs.Lasts.{meant}
 use Rattle.unit.specs.States.{placeCount}
+use Rattle.unit.specs.declared.last.Last.{Last}
 use Rattle.unit.specs.declared.search.Standing.{Standing}
 
 -- nobody, the partner of an order, the partner that calls, or the one that another event names
@@ -26,21 +28,21 @@ pub data Concern : Type 0 where
   callOf : Partner → Concern
   naming : Partner → PartnerEvent → Concern
 
--- whom an event concerns
-abbrev pub concern : Event → Concern
-concern (Level level manual) = nobody
-concern (Mission mission) = nobody
-concern Mode = nobody
-concern (Hole entered) = nobody
-concern (Order p accepting cause) = orderTo p
-concern EndAll = nobody
-concern (Call p) = callOf p
-concern (Named p e) = naming p e
+-- whom an event concerns; an order with the reserved number the one that it means
+abbrev pub concern : Last → Event → Concern
+concern last (Level level manual) = nobody
+concern last (Mission mission) = nobody
+concern last Mode = nobody
+concern last (Hole entered) = nobody
+concern last (Order p accepting cause) = orderTo (meant last p)
+concern last EndAll = nobody
+concern last (Call p) = callOf p
+concern last (Named p e) = naming p e
 
 -- whom a record concerns, as it reads
-abbrev pub concernOf : Reading → Concern
-concernOf (Meant e) = concern e
-concernOf (Refused r) = nobody
+abbrev pub concernOf : Last → Reading → Concern
+concernOf last (Meant e) = concern last e
+concernOf last (Refused r) = nobody
 
 -- "Refusals 5 and 7"
 abbrev pub Numbered : ℕ → Type 0

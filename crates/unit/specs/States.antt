@@ -1,6 +1,6 @@
--- Document 01, "What the box remembers": soundness of a state, and the cold start.
+-- Document 01, "What the box remembers", with what requests Q-2 and Q-3 add to it: soundness of a state, and the cold starts.
 -- Defines: placeCount, some, first, seek, nowhere, standing, highestX, limitsOk, trainOk, marksOk, absentFrom, placesOk, sound, noMarks, cold, noLimits,
--- coldStart.
+-- coldStart, defaultStart.
 use Prim.Native.Nat.{ℕ, suc}
 use mathlib.Core.Bool.{Bool, true, false, cond, _&&_, not, _||_}
 use mathlib.Core.List.{List, [], _∷_}
@@ -9,10 +9,12 @@ use lib.ListN.{length, getD, replicate}
 use Rattle.record.specs.Records.{highestLevel, missionEnded, missionUnderWay}
 use Rattle.wire.specs.Refusals.{accepted, badLimits}
 use Rattle.record.specs.declared.partner.Partner.{Partner}
-use Rattle.place.specs.Places.{phaseNumber, vacant, isFree, heldPhase, holds, placeOk, onHolding}
+use Rattle.place.specs.Places.{phaseNumber, mostTries, defaultTries, fleetTries, vacant, isFree, heldPhase, holds, placeOk, onHolding}
 use Rattle.place.specs.declared.place.Holding.{Holding}
 use Rattle.place.specs.declared.place.Place.{Place}
 use Rattle.place.specs.declared.limits.Limits.{Limits}
+use Rattle.unit.specs.Lasts.{lastOk}
+use Rattle.unit.specs.declared.last.Last.the-variants.{Unknown}
 use Rattle.unit.specs.declared.state.Train.{Train}
 use Rattle.unit.specs.declared.state.Marks.{Marks}
 use Rattle.unit.specs.declared.state.State.{State}
@@ -55,9 +57,9 @@ standing Full = nowhere
 abbrev pub highestX : ℕ
 highestX = 7
 
--- "Lowest and highest supported version X, 0 to 7, lowest ≤ highest"
+-- "Lowest and highest supported version X, 0 to 7, lowest ≤ highest"; Q-3: "a number of tries n, 1 to 9"
 abbrev pub limitsOk : Limits → Bool
-limitsOk l = leb (l .lowest) (l .highest) && leb (l .highest) highestX
+limitsOk l = leb (l .lowest) (l .highest) && (leb (l .highest) highestX && (leb 1 (l .tries) && leb (l .tries) mostTries))
 
 -- "Level 0 to 4 (4 is NTC). Mission: 0 ended, 1 starting, 2 under way"
 abbrev pub trainOk : Train → Bool
@@ -72,21 +74,22 @@ abbrev pub absentFrom : List Place → Holding → Bool
 absentFrom ps k = onHolding true (λ d ph p. not (some (holds p) ps)) k
 
 -- each place is sound by itself, and "no partner has two places"
-unfoldable pub placesOk : ℕ → List Place → Bool
-placesOk n [] = true
-placesOk n (p ∷ ps) = placeOk n p && (absentFrom ps (p .holding) && placesOk n ps)
+unfoldable pub placesOk : Limits → List Place → Bool
+placesOk l [] = true
+placesOk l (p ∷ ps) = placeOk l p && (absentFrom ps (p .holding) && placesOk l ps)
 
--- "A state is sound when all these ranges hold", n being the limit of tries
-unfoldable pub sound : ℕ → State → Bool
-sound n s =
+-- "A state is sound when all these ranges hold"; Q-2: "11 for a state that holds" the reserved number, in a place or as the last known
+unfoldable pub sound : State → Bool
+sound s =
     limitsOk (s .limits)
-    && (trainOk (s .train) && (marksOk (s .marks) && (eqb (length (s .places)) placeCount && placesOk n (s .places))))
+    && (trainOk (s .train)
+    && (marksOk (s .marks) && (eqb (length (s .places)) placeCount && (placesOk (s .limits) (s .places) && lastOk (s .last)))))
 
 -- no mark set
 abbrev pub noMarks : Marks
 noMarks = record { inside = false; mode = false; manual = false; end = false }
 
--- "mission ended, level 0, marks 0, places free"
+-- "mission ended, level 0, marks 0, places free"; Q-2: "a cold start knows none"
 unfoldable pub cold : Limits → State
 cold l =
     record {
@@ -94,13 +97,19 @@ cold l =
       train = record { level = 0; mission = missionEnded };
       marks = noMarks;
       places = replicate placeCount vacant;
+      last = Unknown;
     }
 
--- the limits of a refused cold start or image read: "X from 0 to 0"
+-- the limits of a refused cold start or image read: "X from 0 to 0"; Q-3: it "holds n = 3"
 abbrev pub noLimits : Limits
-noLimits = record { lowest = 0; highest = 0 }
+noLimits = record { lowest = 0; highest = 0; tries = fleetTries }
 
--- "Cold start takes the two X numbers"; 13 for "an X over 7 or lowest over highest"
+-- "Cold start takes the two X numbers", and of Q-3 "a number of tries n, 1 to 9"; 13 for "an X over 7 or lowest over highest", and
+-- "also for n outside 1 to 9"
 unfoldable pub coldStart : Limits → Started
 coldStart l =
     cond (limitsOk l) (record { code = accepted; state = cold l }) (record { code = badLimits; state = cold noLimits })
+
+-- Q-3: "Where no number is given the default was 3 and becomes 5"
+abbrev pub defaultStart : ℕ → ℕ → Started
+defaultStart lowest highest = coldStart (record { lowest = lowest; highest = highest; tries = defaultTries })

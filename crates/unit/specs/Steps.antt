@@ -1,13 +1,13 @@
--- Document 01, "Rules of one step": one step on values, for every kind of event.
--- Defines: Outcome, refusedAt, refused, done, withTrain, withMarks, withPlaces, act, markManual, withLevel, markMode, markHole, holeTaken,
+-- Document 01, "Rules of one step", with the meant partner of request Q-2: one step on values, for every kind of event.
+-- Defines: Outcome, refusedAt, refused, done, withTrain, withMarks, withPlaces, recalling, act, markManual, withLevel, markMode, markHole, holeTaken,
 -- atHole, actionsIn, closed, closingActions, closePlaces, withMission, atMission, radioLevel, inForce, spend, displaced, takenIn, admitted,
--- orderedAt, ordered, calledAt, called, turnedAt, turned, namedAt, step.
+-- orderedAt, orderedTo, ordered, setAt, calledAt, called, turnedAt, turned, namedAt, step.
 use Prim.Native.Nat.{ℕ}
 use mathlib.Core.Bool.{Bool, true, false, cond, _&&_, _||_, not}
 use mathlib.Core.List.{List, [], _∷_, _++_, map}
 use lib.Dec.{eqb}
 use lib.ListN.{getD, set}
-use Rattle.record.specs.Partners.{isRbc}
+use Rattle.record.specs.Partners.{isRbc, reserved}
 use Rattle.record.specs.Records.{missionEnded, missionStarting}
 use Rattle.wire.specs.Refusals as refusal
 use Rattle.record.specs.declared.partner.Partner.{Partner}
@@ -26,6 +26,7 @@ use Rattle.place.specs.declared.place.Place.{Place}
 use Rattle.place.specs.declared.turn.Turn.{Turn}
 use Rattle.place.specs.declared.turn.Closing.{Closing}
 use Rattle.place.specs.declared.turn.Closing.the-variants.{Every, Sessions, Nothing}
+use Rattle.unit.specs.Lasts.{meant, recalled}
 use Rattle.unit.specs.States.{seek, nowhere, standing}
 use Rattle.unit.specs.declared.state.Train.{Train}
 use Rattle.unit.specs.declared.state.Marks.{Marks}
@@ -56,13 +57,18 @@ done s acts = record { code = refusal.accepted; state = s; actions = acts; stand
 
 -- the state with one part of it changed
 abbrev pub withTrain : State → Train → State
-withTrain s t = record { limits = s .limits; train = t; marks = s .marks; places = s .places }
+withTrain s t = record { limits = s .limits; train = t; marks = s .marks; places = s .places; last = s .last }
 
 abbrev pub withMarks : State → Marks → State
-withMarks s m = record { limits = s .limits; train = s .train; marks = m; places = s .places }
+withMarks s m = record { limits = s .limits; train = s .train; marks = m; places = s .places; last = s .last }
 
 abbrev pub withPlaces : State → List Place → State
-withPlaces s ps = record { limits = s .limits; train = s .train; marks = s .marks; places = ps }
+withPlaces s ps = record { limits = s .limits; train = s .train; marks = s .marks; places = ps; last = s .last }
+
+-- Q-2: "the RBC of the most recent 159 sent to an RBC; the state remembers it"
+abbrev pub recalling : State → List Action → State
+recalling s acts =
+    record { limits = s .limits; train = s .train; marks = s .marks; places = s .places; last = recalled (s .last) acts }
 
 -- an action for a partner
 abbrev pub act : Partner → ℕ → Action
@@ -158,15 +164,23 @@ abbrev pub orderedAt : State → Partner → Bool → Cause → ℕ → Outcome
 orderedAt s p accepting cause i =
     takenIn (closePlaces (displaced p accepting) (withMarks s (spend cause (s .marks)))) i p
 
--- "for an order 4, 5, 8"
+-- Q-2: "15 .. when none is known, after 4 and before 5": the meant partner is then still the reserved one
+abbrev pub orderedTo : State → Partner → Bool → Cause → Outcome
+orderedTo s p accepting cause =
+    cond (reserved p) (refused refusal.noneKnown s) (admitted s (orderedAt s p accepting cause) (seek p (s .places)))
+
+-- "for an order 4, 5, 8"; Q-2: "Demands 2 and 3 read with the meant partner"
 abbrev pub ordered : State → Partner → Bool → Cause → Outcome
 ordered s p accepting cause =
-    cond (inForce cause (s .train) (s .marks)) (admitted s (orderedAt s p accepting cause) (seek p (s .places)))
-    (refused refusal.notInForce s)
+    cond (inForce cause (s .train) (s .marks)) (orderedTo s (meant (s .last) p) accepting cause) (refused refusal.notInForce s)
+
+-- another place at this number, and these actions for its partner
+abbrev pub setAt : State → ℕ → Place → List Action → Outcome
+setAt s i place acts = done (recalling (withPlaces s (set (s .places) i place)) acts) acts
 
 -- "Message 38 takes the lowest free place as Open, incoming, with 159"
 abbrev pub calledAt : State → Partner → ℕ → Outcome
-calledAt s p i = done (withPlaces s (set (s .places) i (seat Incoming Open p))) (act p established ∷ [])
+calledAt s p i = setAt s i (seat Incoming Open p) (act p established ∷ [])
 
 -- "for 38 9, 5, 8"
 abbrev pub called : State → Partner → Outcome
@@ -174,26 +188,25 @@ called s p = cond (isRbc p) (admitted s (calledAt s p) (seek p (s .places))) (re
 
 -- a turn of the place with this number, for the partner that it holds
 abbrev pub turnedAt : State → ℕ → Partner → Turn → Outcome
-turnedAt s i p t =
-    done (withPlaces s (set (s .places) i (placeAfter (getD (s .places) i vacant) t))) (map (act p) (numbers t))
+turnedAt s i p t = setAt s i (placeAfter (getD (s .places) i vacant) t) (map (act p) (numbers t))
 
 -- "\"no\" is refusal 7"
 abbrev pub turned : State → ℕ → Phase → Partner → Turn → Outcome
 turned s i ph p t = cond (takes t) (turnedAt s i p t) (refusedAt refusal.notTaken (standing (At i ph)) s)
 
 -- "for other partner events 6, 7"
-abbrev pub namedAt : ℕ → State → Partner → PartnerEvent → Found → Outcome
-namedAt n s p e (At i ph) = turned s i ph p (turn n (s .limits) ph e)
-namedAt n s p e (Vacant i) = refusedAt refusal.hasNone (standing (Vacant i)) s
-namedAt n s p e Full = refusedAt refusal.hasNone (standing Full) s
+abbrev pub namedAt : State → Partner → PartnerEvent → Found → Outcome
+namedAt s p e (At i ph) = turned s i ph p (turn (s .limits) ph e)
+namedAt s p e (Vacant i) = refusedAt refusal.hasNone (standing (Vacant i)) s
+namedAt s p e Full = refusedAt refusal.hasNone (standing Full) s
 
--- one step, n being the limit of tries
-unfoldable pub step : ℕ → State → Event → Outcome
-step n s (Level level manual) = done (withLevel s level manual) []
-step n s (Mission mission) = atMission s mission
-step n s Mode = done (withMarks s (markMode (s .marks))) []
-step n s (Hole entered) = atHole s entered
-step n s (Order p accepting cause) = ordered s p accepting cause
-step n s EndAll = closePlaces Every s
-step n s (Call p) = called s p
-step n s (Named p e) = namedAt n s p e (seek p (s .places))
+-- one step
+unfoldable pub step : State → Event → Outcome
+step s (Level level manual) = done (withLevel s level manual) []
+step s (Mission mission) = atMission s mission
+step s Mode = done (withMarks s (markMode (s .marks))) []
+step s (Hole entered) = atHole s entered
+step s (Order p accepting cause) = ordered s p accepting cause
+step s EndAll = closePlaces Every s
+step s (Call p) = called s p
+step s (Named p e) = namedAt s p e (seek p (s .places))

@@ -3,7 +3,6 @@ ghost use mathlib.Core.Path.{_≡_};
 ghost use Prim.Native.Nat.{_+_, _*_, _≤_};
 ghost use lib.ListN.{length, take};
 ghost use lib.Seq.{sets};
-ghost use Rattle.place.specs.Places.{tryLimit};
 ghost use Rattle.unit.specs.OnRecords.{actionSize, bytesOf, written, applied, onRecord};
 ghost use Rattle.unit.specs.Forms.{mostActions, packed, stepped};
 use crate::answer::Action;
@@ -51,7 +50,7 @@ fn put_all(s: &mut [u8], actions: Actions)
 impl State {
     // Applies an event record: refusals 11, 1, 2, 1, 3 and then those of the event, the first that applies; the actions as values.
     pub fn apply(self, bytes: &[u8]) -> Answer
-        ensures { λ r. ⌜ r ≡ packed (applied tryLimit self (now (bytes .entry))) ⌝ }
+        ensures { λ r. ⌜ r ≡ packed (applied self (now (bytes .entry))) ⌝ }
     {
         if self.is_sound() {
             match read(bytes) {
@@ -65,7 +64,7 @@ impl State {
 
     // What it answers to a record where its action buffer has this room.
     fn answer(self, bytes: &[u8], room: usize) -> Answer
-        ensures { λ r. ⌜ r ≡ packed (onRecord tryLimit self (now (bytes .entry)) room) ⌝ }
+        ensures { λ r. ⌜ r ≡ packed (onRecord self (now (bytes .entry)) room) ⌝ }
     {
         if room < ACTION_ROOM {
             Answer::refused(NO_ROOM, self)
@@ -78,9 +77,9 @@ impl State {
     // An accepted step writes its actions to the front of the buffer and no other byte; a refused one writes nothing.
     pub fn on_record(self, bytes: &[u8], actions: &mut [u8]) -> Stepped
         ensures { λ r.
-            ⌜ (r ≡ stepped (onRecord tryLimit self (now (bytes .entry)) (length (now (actions .entry)))))
+            ⌜ (r ≡ stepped (onRecord self (now (bytes .entry)) (length (now (actions .entry)))))
             × (now (actions .exit)
-            ≡ written (onRecord tryLimit self (now (bytes .entry)) (length (now (actions .entry))) .actions) (now (actions .entry))) ⌝ }
+            ≡ written (onRecord self (now (bytes .entry)) (length (now (actions .entry))) .actions) (now (actions .entry))) ⌝ }
     {
         let answer = self.answer(bytes, actions.len());
         let sent = answer.actions;

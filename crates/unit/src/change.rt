@@ -3,13 +3,11 @@ ghost use mathlib.Core.Path.{_≡_};
 ghost use Prim.Native.Nat.{_<_};
 ghost use mathlib.Core.Bool.{true, false};
 ghost use mathlib.Core.List.{[], map};
-ghost use lib.ListN.{set};
-ghost use Rattle.place.specs.Places.{tryLimit};
 ghost use Rattle.place.specs.Table.{numbers, turn};
 ghost use Rattle.wire.specs.Refusals.{accepted};
 ghost use Rattle.unit.specs.States.{placeCount, standing};
 ghost use Rattle.unit.specs.declared.search.Found.the-variants.{At};
-ghost use Rattle.unit.specs.Steps.{refusedAt, refused, done, act, withTrain, withMarks, withPlaces, closePlaces, takenIn, turned, step};
+ghost use Rattle.unit.specs.Steps.{refusedAt, refused, done, act, withTrain, withMarks, closePlaces, takenIn, orderedTo, setAt, turned, step};
 ghost use Rattle.place.specs.declared.turn.Closing.the-variants.{Every};
 ghost use Rattle.unit.specs.Changes.{noted, carried};
 use crate::order::displaced;
@@ -40,6 +38,7 @@ use wire::refusal::ALL_TAKEN;
 use wire::refusal::CALL_FROM_RIU;
 use wire::refusal::HAS_NONE;
 use wire::refusal::HAS_PLACE;
+use wire::refusal::NONE_KNOWN;
 use wire::refusal::NOT_IN_FORCE;
 use wire::refusal::NOT_TAKEN;
 
@@ -135,7 +134,7 @@ impl State {
     }
 
     fn level(self, level: u32, manual: bool) -> Change
-        ensures { λ r. ⌜ carried self r ≡ step tryLimit self (Event.Level level manual) ⌝ }
+        ensures { λ r. ⌜ carried self r ≡ step self (Event.Level level manual) ⌝ }
     {
         let mut train = self.train;
         let mut marks = self.marks;
@@ -146,7 +145,7 @@ impl State {
     }
 
     fn mode(self) -> Change
-        ensures { λ r. ⌜ carried self r ≡ step tryLimit self Event.Mode ⌝ }
+        ensures { λ r. ⌜ carried self r ≡ step self Event.Mode ⌝ }
     {
         let train = self.train;
         let mut marks = self.marks;
@@ -155,7 +154,7 @@ impl State {
     }
 
     fn enter_hole(self) -> Change
-        ensures { λ r. ⌜ carried self r ≡ step tryLimit self (Event.Hole true) ⌝ }
+        ensures { λ r. ⌜ carried self r ≡ step self (Event.Hole true) ⌝ }
     {
         let train = self.train;
         let mut marks = self.marks;
@@ -168,7 +167,7 @@ impl State {
     }
 
     fn leave_hole(self) -> Change
-        ensures { λ r. ⌜ carried self r ≡ step tryLimit self (Event.Hole false) ⌝ }
+        ensures { λ r. ⌜ carried self r ≡ step self (Event.Hole false) ⌝ }
     {
         let train = self.train;
         let mut marks = self.marks;
@@ -181,7 +180,7 @@ impl State {
     }
 
     fn mission(self, mission: u32) -> Change
-        ensures { λ r. ⌜ carried self r ≡ step tryLimit self (Event.Mission mission) ⌝ }
+        ensures { λ r. ⌜ carried self r ≡ step self (Event.Mission mission) ⌝ }
     {
         let mut train = self.train;
         let marks = self.marks;
@@ -194,7 +193,7 @@ impl State {
     }
 
     fn end_all(self) -> Change
-        ensures { λ r. ⌜ carried self r ≡ step tryLimit self Event.EndAll ⌝ }
+        ensures { λ r. ⌜ carried self r ≡ step self Event.EndAll ⌝ }
     {
         let train = self.train;
         self.close_all(train)
@@ -222,24 +221,36 @@ impl State {
         }
     }
 
+    // An order to the partner that is meant, its cause in force.
+    fn order_to(self, partner: Partner, accepting: bool, cause: Cause) -> Change
+        ensures { λ r. ⌜ carried self r ≡ orderedTo self partner accepting cause ⌝ }
+    {
+        let marks = self.marks;
+        if partner.is_reserved() {
+            return self.refuse(NONE_KNOWN);
+        }
+        match self.seek(partner) {
+            Found::At { place, phase } => self.refuse_at(HAS_PLACE, place, phase),
+            Found::Vacant(at) => {
+                self.take_in(
+                    spend(cause, marks),
+                    displaced(partner, accepting),
+                    at,
+                    partner,
+                )
+            }
+            Found::Full => self.refuse(ALL_TAKEN),
+        }
+    }
+
     fn order(self, partner: Partner, accepting: bool, cause: Cause) -> Change
-        ensures { λ r. ⌜ carried self r ≡ step tryLimit self (Event.Order partner accepting cause) ⌝ }
+        ensures { λ r. ⌜ carried self r ≡ step self (Event.Order partner accepting cause) ⌝ }
     {
         let train = self.train;
         let marks = self.marks;
+        let last = self.last;
         if in_force(cause, train, marks) {
-            match self.seek(partner) {
-                Found::At { place, phase } => self.refuse_at(HAS_PLACE, place, phase),
-                Found::Vacant(at) => {
-                    self.take_in(
-                        spend(cause, marks),
-                        displaced(partner, accepting),
-                        at,
-                        partner,
-                    )
-                }
-                Found::Full => self.refuse(ALL_TAKEN),
-            }
+            self.order_to(last.meant(partner), accepting, cause)
         } else {
             self.refuse(NOT_IN_FORCE)
         }
@@ -247,7 +258,7 @@ impl State {
 
     // Another place at this number, and the actions of a turn for its partner.
     fn set_place(self, at: usize, place: Place, partner: Partner, turn: Turn) -> Change
-        ensures { λ r. ⌜ carried self r ≡ done (withPlaces self (set (self .places) at place)) (map (act partner) (numbers turn)) ⌝ }
+        ensures { λ r. ⌜ carried self r ≡ setAt self at place (map (act partner) (numbers turn)) ⌝ }
     {
         let train = self.train;
         let marks = self.marks;
@@ -265,7 +276,7 @@ impl State {
     }
 
     fn call(self, partner: Partner) -> Change
-        ensures { λ r. ⌜ carried self r ≡ step tryLimit self (Event.Call partner) ⌝ }
+        ensures { λ r. ⌜ carried self r ≡ step self (Event.Call partner) ⌝ }
     {
         if partner.is_rbc() {
             match self.seek(partner) {
@@ -289,7 +300,7 @@ impl State {
     // known whether it turns: the compiled code is shorter so.
     fn turn(self, at: usize, phase: Phase, partner: Partner, event: PartnerEvent) -> Change
         requires { ⌜ at < placeCount ⌝ }
-        ensures { λ r. ⌜ carried self r ≡ turned self at phase partner (turn tryLimit (self .limits) phase event) ⌝ }
+        ensures { λ r. ⌜ carried self r ≡ turned self at phase partner (turn (self .limits) phase event) ⌝ }
     {
         let limits = self.limits;
         let place = self.place_at(at);
@@ -302,7 +313,7 @@ impl State {
     }
 
     fn named(self, partner: Partner, event: PartnerEvent) -> Change
-        ensures { λ r. ⌜ carried self r ≡ step tryLimit self (Event.Named partner event) ⌝ }
+        ensures { λ r. ⌜ carried self r ≡ step self (Event.Named partner event) ⌝ }
     {
         match self.seek(partner) {
             Found::At { place, phase } => self.turn(place, phase, partner, event),
@@ -313,7 +324,7 @@ impl State {
 
     // What an event changes.
     pub(crate) fn change(self, event: Event) -> Change
-        ensures { λ r. ⌜ carried self r ≡ step tryLimit self event ⌝ }
+        ensures { λ r. ⌜ carried self r ≡ step self event ⌝ }
     {
         match event {
             Event::Level { level, manual } => self.level(level, manual),

@@ -2,6 +2,7 @@
 pub mod answer;
 pub mod bytes;
 pub mod change;
+pub mod last;
 pub mod order;
 pub mod run;
 pub mod search;

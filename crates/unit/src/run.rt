@@ -4,7 +4,6 @@ ghost use Prim.Native.Nat.{_+_, _*_, _≤_, _<_};
 ghost use mathlib.Core.Bool.{true};
 ghost use lib.ListN.{length, take, drop};
 ghost use Rattle.wire.specs.Refusals.{outOfRange};
-ghost use Rattle.place.specs.Places.{tryLimit};
 ghost use Rattle.unit.specs.States.{sound};
 ghost use Rattle.unit.specs.OnRecords.{onReading};
 ghost use Rattle.unit.specs.Steps.{refused};
@@ -162,8 +161,8 @@ impl Tally {
 
     // The run after one more record, of this length and with this meaning.
     fn apply(self, reading: Reading, length: usize) -> Tally
-        requires { ⌜ Bounded self × (self .offset + length ≤ longestLog) × (sound tryLimit (self .state) ≡ true) × (readingOk reading ≡ true) ⌝ }
-        ensures { λ r. ⌜ r ≡ counted self length (onReading tryLimit (self .state) reading) ⌝ }
+        requires { ⌜ Bounded self × (self .offset + length ≤ longestLog) × (sound (self .state) ≡ true) × (readingOk reading ≡ true) ⌝ }
+        ensures { λ r. ⌜ r ≡ counted self length (onReading (self .state) reading) ⌝ }
     {
         match reading {
             Reading::Meant(event) => {
@@ -191,8 +190,8 @@ impl Tally {
 
 // The records of a log from a sound state.
 fn go(state: State, log: &[u8], budget: usize) -> Report
-    requires { ⌜ (length (now log) ≤ longestLog) × (sound tryLimit state ≡ true) ⌝ }
-    ensures { λ r. ⌜ r ≡ go tryLimit budget (fresh state) (now (log .entry)) ⌝ }
+    requires { ⌜ (length (now log) ≤ longestLog) × (sound state ≡ true) ⌝ }
+    ensures { λ r. ⌜ r ≡ go budget (fresh state) (now (log .entry)) ⌝ }
 {
     let mut tally = Tally::fresh(state);
     let mut left = budget;
@@ -237,7 +236,7 @@ fn go(state: State, log: &[u8], budget: usize) -> Report
 
 // Runs over a log with a budget of records: refusal 12 for a log over 1,048,576 bytes, then 11 for a state that is not sound.
 pub fn run(state: State, log: &[u8], budget: usize) -> Report
-    ensures { λ r. ⌜ r ≡ run tryLimit state (now (log .entry)) budget ⌝ }
+    ensures { λ r. ⌜ r ≡ run state (now (log .entry)) budget ⌝ }
 {
     if log.len() > LONGEST_LOG {
         return Report {

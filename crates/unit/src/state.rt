@@ -2,9 +2,12 @@
 ghost use mathlib.Core.Path.{_≡_};
 ghost use Prim.Native.Nat.{_+_, _<_};
 ghost use lib.ListN.{drop, getD};
-ghost use Rattle.place.specs.Places.{vacant, tryLimit};
+ghost use Rattle.place.specs.Places.{vacant};
 ghost use Rattle.unit.specs.States.{placeCount, limitsOk, trainOk, marksOk, absentFrom, placesOk, sound};
+use crate::last::Last;
 use place::limits::Limits;
+use place::limits::MOST_TRIES;
+use place::phase::FIRST_TRY;
 use place::place::Holding;
 use place::place::Place;
 use wire::join::and;
@@ -14,7 +17,7 @@ use wire::join::negated;
 pub const PLACES: usize = 4;
 
 // The largest X, level and mission.
-const HIGHEST_X: u32 = 7;
+const HIGHEST_X: u8 = 7;
 
 const HIGHEST_LEVEL: u32 = record::read::HIGHEST_LEVEL as u32;
 
@@ -43,13 +46,20 @@ pub struct State {
     pub train: Train,
     pub marks: Marks,
     pub places: [Place; 4],
+    pub last: Last,
 }
 
-// Whether the X numbers are in their ranges.
+// Whether the X numbers and the number of tries are in their ranges.
 pub(crate) fn limits_ok(limits: Limits) -> bool
     ensures { λ r. ⌜ r ≡ limitsOk limits ⌝ }
 {
-    and(limits.lowest <= limits.highest, limits.highest <= HIGHEST_X)
+    and(
+        limits.lowest <= limits.highest,
+        and(
+            limits.highest <= HIGHEST_X,
+            and(FIRST_TRY <= limits.tries, limits.tries <= MOST_TRIES),
+        ),
+    )
 }
 
 fn train_ok(train: Train) -> bool
@@ -87,16 +97,21 @@ impl State {
 
     // Whether each place is sound by itself and no partner has two.
     fn places_ok(self) -> bool
-        ensures { λ r. ⌜ r ≡ placesOk tryLimit (self .places) ⌝ }
+        ensures { λ r. ⌜ r ≡ placesOk (self .limits) (self .places) ⌝ }
     {
         let mut i = 0;
         loop {
             if i >= PLACES {
                 break true;
             }
+            let limits = self.limits;
             let place = self.places[i];
-            if and(place.is_sound(), self.absent_above(i)) {
-                i += 1;
+            if place.is_sound(limits) {
+                if self.absent_above(i) {
+                    i += 1;
+                } else {
+                    break false;
+                }
             } else {
                 break false;
             }
@@ -105,14 +120,18 @@ impl State {
 
     // Whether the state is sound.
     pub fn is_sound(self) -> bool
-        ensures { λ r. ⌜ r ≡ sound tryLimit self ⌝ }
+        ensures { λ r. ⌜ r ≡ sound self ⌝ }
     {
         let limits = self.limits;
         let train = self.train;
         let marks = self.marks;
+        let last = self.last;
         and(
             limits_ok(limits),
-            and(train_ok(train), and(marks_ok(marks), self.places_ok())),
+            and(
+                train_ok(train),
+                and(marks_ok(marks), and(self.places_ok(), last.is_sound())),
+            ),
         )
     }
 }

@@ -2,7 +2,6 @@
 ghost use mathlib.Core.Path.{_≡_};
 ghost use Prim.Native.Nat.{_≤_};
 ghost use lib.ListN.{length};
-ghost use Rattle.place.specs.Places.{tryLimit};
 ghost use Rattle.unit.specs.Steps.{closePlaces, step};
 ghost use Rattle.unit.specs.Forms.{mostActions, packed};
 ghost use Rattle.unit.specs.Changes.{closesAny, settled, made};
@@ -46,22 +45,37 @@ impl State {
         Answer::done(next, actions)
     }
 
-    // The state with a change's train, marks and place.
+    // The state with a change's train, marks and place, and the RBC of its actions.
     fn settle(self, change: Change) -> State
         ensures { λ r. ⌜ r ≡ settled self change ⌝ }
     {
+        let limits = self.limits;
+        let known = self.last;
         let train = change.train;
         let marks = change.marks;
         let at = change.at;
         let place = change.place;
-        let mut next = self;
-        next.train = train;
-        next.marks = marks;
+        let partner = change.partner;
+        let turn = change.turn;
+        let last = known.recall_turn(partner, turn);
+        let mut places = self.places;
         if at < PLACES {
-            next.places[at] = place;
-            return next;
+            places[at] = place;
+            return State {
+                limits,
+                train,
+                marks,
+                places,
+                last,
+            };
         }
-        next
+        State {
+            limits,
+            train,
+            marks,
+            places,
+            last,
+        }
     }
 
     // The closings of a change, then the rest of it.
@@ -94,7 +108,7 @@ impl State {
 
     // One step: the next state and the actions in their order, or the refusal with the state as given.
     pub(crate) fn step(self, event: Event) -> Answer
-        ensures { λ r. ⌜ r ≡ packed (step tryLimit self event) ⌝ }
+        ensures { λ r. ⌜ r ≡ packed (step self event) ⌝ }
     {
         let change = self.change(event);
         let code = change.code;

@@ -11,14 +11,20 @@ use place::place::Place;
 use record::partner::Partner;
 use unit::answer::Stepped;
 use unit::bytes::ACTION_SIZE;
+use unit::last::Last;
 use unit::state::Marks;
 use unit::state::State;
 use unit::state::Train;
 use wire::byte::byte_at;
 use wire::join::and;
 
-// The bytes of a state: an image's after its kind.
-pub const STATE_SIZE: usize = 36;
+// The bytes of a state: an A2 image's after its kind.
+pub const STATE_SIZE: usize = 41;
+
+// Where the number of tries stands in them, and the last known RBC.
+pub const TRIES_AT: usize = 36;
+
+pub const LAST_AT: usize = 37;
 
 // Its bytes before the places, and those of one place.
 pub const HEAD_SIZE: usize = 8;
@@ -32,7 +38,8 @@ fn word_is(n: u32, s: &[u8], at: usize) -> bool {
     n == word(byte_at(s, at))
 }
 
-fn mark_is(mark: bool, s: &[u8], at: usize) -> bool {
+// Whether the byte is the mark's.
+pub(crate) fn mark_is(mark: bool, s: &[u8], at: usize) -> bool {
     if mark {
         byte_at(s, at) == 1
     } else {
@@ -40,9 +47,30 @@ fn mark_is(mark: bool, s: &[u8], at: usize) -> bool {
     }
 }
 
-// Whether the first two bytes are the limits.
-pub(crate) fn limits_are(limits: Limits, s: &[u8]) -> bool {
-    and(word_is(limits.lowest, s, 0), word_is(limits.highest, s, 1))
+// Whether the first two bytes are the X numbers, and the one where the tries stand is theirs.
+pub(crate) fn limits_are(limits: Limits, s: &[u8], tries_at: usize) -> bool {
+    and(
+        and(
+            limits.lowest == byte_at(s, 0),
+            limits.highest == byte_at(s, 1),
+        ),
+        limits.tries == byte_at(s, tries_at),
+    )
+}
+
+fn four_are(s: &[u8], flag: u8, high: u8, middle: u8, low: u8) -> bool {
+    and(
+        and(byte_at(s, 0) == flag, byte_at(s, 1) == high),
+        and(byte_at(s, 2) == middle, byte_at(s, 3) == low),
+    )
+}
+
+// Whether the four bytes at the front are those of the last known RBC.
+pub(crate) fn last_is(last: Last, s: &[u8]) -> bool {
+    match last {
+        Last::Unknown => four_are(s, 0, 0, 0, 0),
+        Last::Known { high, middle, low } => four_are(s, 1, high, middle, low),
+    }
 }
 
 fn train_is(train: Train, s: &[u8]) -> bool {
@@ -50,20 +78,20 @@ fn train_is(train: Train, s: &[u8]) -> bool {
 }
 
 // Whether bytes 4 to 7 are the marks.
-pub(crate) fn marks_are(marks: Marks, s: &[u8]) -> bool {
+fn marks_are(marks: Marks, s: &[u8]) -> bool {
     and(
         and(mark_is(marks.inside, s, 4), mark_is(marks.mode, s, 5)),
         and(mark_is(marks.manual, s, 6), mark_is(marks.end, s, 7)),
     )
 }
 
-// Whether the eight bytes at the front are those of a state before its places.
+// Whether the eight bytes at the front are those of a state before its places, and its tries stand where they should.
 fn head_is(state: State, s: &[u8]) -> bool {
     let limits = state.limits;
     let train = state.train;
     let marks = state.marks;
     and(
-        limits_are(limits, s),
+        limits_are(limits, s, TRIES_AT),
         and(train_is(train, s), marks_are(marks, s)),
     )
 }
@@ -122,9 +150,13 @@ pub(crate) fn places_are(state: State, s: &[u8]) -> bool {
     )
 }
 
-// Whether the 36 bytes at the front are those of a state, sound or not.
+// Whether the 41 bytes at the front are those of a state, sound or not.
 pub(crate) fn state_is(state: State, s: &[u8]) -> bool {
-    and(head_is(state, s), places_are(state, rest(s, HEAD_SIZE)))
+    let last = state.last;
+    and(
+        and(head_is(state, s), places_are(state, rest(s, HEAD_SIZE))),
+        last_is(last, rest(s, LAST_AT)),
+    )
 }
 
 // Whether the four bytes at the front are a step's code, count, place and phase.

@@ -1,6 +1,8 @@
-// The state that a vector gives: 36 bytes, an image's after its kind, sound or not.
+// The state that a vector gives: 41 bytes, an A2 image's after its kind, sound or not.
 use crate::expected::HEAD_SIZE;
+use crate::expected::LAST_AT;
 use crate::expected::PLACE_SIZE;
+use crate::expected::TRIES_AT;
 use crate::part::rest;
 use crate::part::word;
 use place::limits::Limits;
@@ -8,6 +10,7 @@ use place::phase::Phase;
 use place::place::Direction;
 use place::place::Place;
 use record::partner::Partner;
+use unit::last::Last;
 use unit::state::Marks;
 use unit::state::State;
 use unit::state::Train;
@@ -50,11 +53,12 @@ fn place_in(s: &[u8]) -> Place {
     )
 }
 
-// The limits in two bytes.
-pub(crate) fn limits_in(s: &[u8]) -> Limits {
+// The limits: two X numbers at the front, and the number of tries where it stands.
+pub(crate) fn limits_in(s: &[u8], tries_at: usize) -> Limits {
     Limits {
-        lowest: word(byte_at(s, 0)),
-        highest: word(byte_at(s, 1)),
+        lowest: byte_at(s, 0),
+        highest: byte_at(s, 1),
+        tries: byte_at(s, tries_at),
     }
 }
 
@@ -74,11 +78,23 @@ fn marks_in(s: &[u8]) -> Marks {
     }
 }
 
-// The state in 36 bytes.
+// The last known RBC in four bytes; none where the first is 0.
+pub(crate) fn last_in(s: &[u8]) -> Last {
+    if byte_at(s, 0) == 0 {
+        return Last::Unknown;
+    }
+    Last::Known {
+        high: byte_at(s, 1),
+        middle: byte_at(s, 2),
+        low: byte_at(s, 3),
+    }
+}
+
+// The state in 41 bytes.
 pub(crate) fn state_in(s: &[u8]) -> State {
     let places = rest(s, HEAD_SIZE);
     State {
-        limits: limits_in(s),
+        limits: limits_in(s, TRIES_AT),
         train: train_in(s),
         marks: marks_in(s),
         places: [
@@ -87,5 +103,6 @@ pub(crate) fn state_in(s: &[u8]) -> State {
             place_in(rest(places, 2 * PLACE_SIZE)),
             place_in(rest(places, 3 * PLACE_SIZE)),
         ],
+        last: last_in(rest(s, LAST_AT)),
     }
 }

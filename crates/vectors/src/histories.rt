@@ -15,8 +15,10 @@ use unit::state::State;
 use wire::join::and;
 use wire::refusal::ACCEPTED;
 
-// Where the records begin: after two limits and their number.
-const RECORDS_AT: usize = 4;
+// Where the number of the records stands, after the limits, and where they begin.
+const COUNT_AT: usize = 3;
+
+const RECORDS_AT: usize = 5;
 
 // A history so far: whether all held, the state, and where the next record stands.
 struct Walk {
@@ -65,12 +67,12 @@ impl Walk {
 
 // A history.
 pub(crate) fn history_holds(s: &[u8]) -> bool {
-    let start = cold_start(limits_in(s));
+    let start = cold_start(limits_in(s, 2));
     let state = start.state;
     let walk = Walk {
         holds: start.code == ACCEPTED,
         state,
         at: RECORDS_AT,
     };
-    walk.steps(s, short_at(s, 2)).ends(s)
+    walk.steps(s, short_at(s, COUNT_AT)).ends(s)
 }

@@ -18,7 +18,7 @@ use wire::byte::byte_at;
 use wire::join::and;
 
 // The bytes of a report: code, stop, nine numbers and the state.
-const REPORT_SIZE: usize = 74;
+const REPORT_SIZE: usize = 79;
 
 fn long_is(n: u32, s: &[u8], at: usize) -> bool {
     n as usize == long_at(s, at)

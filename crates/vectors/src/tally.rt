@@ -4,15 +4,15 @@ use crate::part::wide;
 use libc::STDOUT_FILENO;
 
 // The groups, and a place for vectors of no group.
-const ROWS: usize = 10;
+const ROWS: usize = 13;
 
 // The most failures that are named.
 const MOST_NAMED: u64 = 100;
 
 // Vectors judged and failed, of each group and in all; row 0 is for vectors of no group.
 pub struct Tally {
-    judged: [u64; 10],
-    failed: [u64; 10],
+    judged: [u64; 13],
+    failed: [u64; 13],
     all: u64,
     all_failed: u64,
 }
@@ -22,7 +22,7 @@ fn more(n: u64) -> u64 {
 }
 
 fn row_of(group: u8) -> usize
-    ensures { λ r. ⌜ r < 10 ⌝ }
+    ensures { λ r. ⌜ r < 13 ⌝ }
 {
     let row = wide(group);
     if row < ROWS { row } else { 0 }
@@ -48,6 +48,9 @@ fn write_name(row: usize) -> bool {
         7 => io::write_all(STDOUT_FILENO, b"buffers"),
         8 => io::write_all(STDOUT_FILENO, b"runs"),
         9 => io::write_all(STDOUT_FILENO, b"histories"),
+        10 => io::write_all(STDOUT_FILENO, b"tries"),
+        11 => io::write_all(STDOUT_FILENO, b"last"),
+        12 => io::write_all(STDOUT_FILENO, b"kinds"),
         _ => io::write_all(STDOUT_FILENO, b"all"),
     }
 }
@@ -65,8 +68,8 @@ impl Tally {
     // No vector.
     pub(crate) fn none() -> Tally {
         Tally {
-            judged: [0; 10],
-            failed: [0; 10],
+            judged: [0; 13],
+            failed: [0; 13],
             all: 0,
             all_failed: 0,
         }

@@ -1,5 +1,5 @@
-// All vectors of the independent model, judged; then some of which four are spoilt (a code, a place, a phase, and a place where 4 is
-// due), so that the judge has to name these and no other; then an image, held to bytes that were written by hand.
+// All vectors of the independent model, judged; then some of which six are spoilt (a code, a place, a phase, a place where 4 is due,
+// a number of tries, a last known RBC), so that the judge has to name these and no other; then an image, held to bytes that were written by hand.
 mod mixed;
 
 fn main() {

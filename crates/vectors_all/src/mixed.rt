@@ -1,12 +1,13 @@
 // The image of a mixed state, to be held to bytes that were written by hand.
 use image::read::read_image;
-use image::write::write_image;
+use image::write::write_a1;
 use libc::STDOUT_FILENO;
 use place::limits::Limits;
 use place::phase::Phase;
 use place::place::Direction;
 use place::place::Place;
 use record::partner::Partner;
+use unit::last::Last;
 use unit::state::Marks;
 use unit::state::State;
 use unit::state::Train;
@@ -29,6 +30,7 @@ fn mixed() -> State {
         limits: Limits {
             lowest: 1,
             highest: 2,
+            tries: 3,
         },
         train: Train {
             level: 2,
@@ -46,6 +48,7 @@ fn mixed() -> State {
             Place::held(Direction::Outgoing, Phase::Contacting(3), infill),
             Place::held(Direction::Outgoing, Phase::Open, open),
         ],
+        last: Last::Unknown,
     }
 }
 
@@ -65,7 +68,7 @@ fn print_image(image: &[u8]) {
 // Prints the image of a mixed state in hex, and the numbers that writing and reading it answer.
 pub(crate) fn image_of_mixed() {
     let mut buffer = [0u8; 37];
-    let stored = write_image(mixed(), &mut buffer);
+    let stored = write_a1(mixed(), &mut buffer);
     print_image(&buffer);
     let again = read_image(&buffer);
     print_byte(stored.code);

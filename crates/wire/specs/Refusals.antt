@@ -1,6 +1,6 @@
 -- Document 01, "Numbers of refusal": each number with its one name.
 -- Defines: accepted, wrongLength, unknownKind, outOfRange, notInForce, hasPlace, hasNone, notTaken, allTaken, callFromRiu, noRoom,
--- notSound, logTooLong, badLimits.
+-- notSound, logTooLong, badLimits, noneKnown, notInA1.
 use Prim.Native.Nat.{ℕ}
 
 -- what an answer carries where nothing was refused
@@ -43,7 +43,7 @@ allTaken = 8
 abbrev pub callFromRiu : ℕ
 callFromRiu = 9
 
--- "action buffer under 20 bytes, image buffer under 37"
+-- "action buffer under 20 bytes, image buffer under 37"; Q-4: "Image buffers must have 42 bytes for A2"
 abbrev pub noRoom : ℕ
 noRoom = 10
 
@@ -55,6 +55,14 @@ notSound = 11
 abbrev pub logTooLong : ℕ
 logTooLong = 12
 
--- "cold start with an X over 7 or lowest over highest"
+-- "cold start with an X over 7 or lowest over highest"; Q-3: "also for n outside 1 to 9"
 abbrev pub badLimits : ℕ
 badLimits = 13
+
+-- Q-2: "15 .. when none is known"
+abbrev pub noneKnown : ℕ
+noneKnown = 15
+
+-- Q-4: "16, the state doesn't fit A1"
+abbrev pub notInA1 : ℕ
+notInA1 = 16

@@ -26,3 +26,7 @@ pub const NOT_SOUND: u8 = 11;
 pub const LOG_TOO_LONG: u8 = 12;
 
 pub const BAD_LIMITS: u8 = 13;
+
+pub const NONE_KNOWN: u8 = 15;
+
+pub const NOT_IN_A1: u8 = 16;

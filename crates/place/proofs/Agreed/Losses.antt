@@ -15,14 +15,14 @@ use Rattle.place.specs.Turns.{ownNumbers}
 
 -- "Sending 156 on a Lost connection" does not happen, whatever the event
 -- promise
-pub lost-sends : (n : ℕ) (l : Limits) (t : ℕ) (e : PartnerEvent) → ownNumbers (numbers (turn n l (Lost t) e)) ≡ true
+pub lost-sends : (l : Limits) (t : ℕ) (e : PartnerEvent) → ownNumbers (numbers (turn l (Lost t) e)) ≡ true
 unfolding turn
-lost-sends n l t Drop = refl
-lost-sends n l t Up = refl
-lost-sends n l t Loss = refl
-lost-sends n l t Timeout = cond-holds (λ x. ownNumbers (numbers x) ≡ true) (ltb t n) (Sends request (Lost (t + 1))) Released refl refl
-lost-sends n l t (Version v) = refl
-lost-sends n l t Ended = refl
+lost-sends l t Drop = refl
+lost-sends l t Up = refl
+lost-sends l t Loss = refl
+lost-sends l t Timeout = cond-holds (λ x. ownNumbers (numbers x) ≡ true) (ltb t (l .tries)) (Sends request (Lost (t + 1))) Released refl refl
+lost-sends l t (Version v) = refl
+lost-sends l t Ended = refl
 
 -- nor at a closing
 -- promise

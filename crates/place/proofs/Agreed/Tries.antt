@@ -20,32 +20,32 @@ use Rattle.place.specs.Turns.{onNext, fresh}
 abbrev NextFresh : Phase → Turn → Type 0
 NextFresh ph = onNext (λ q. fresh ph q ≡ true)
 
-again-fresh : (n number : ℕ) (ph : Phase) → fresh ph (oneMore ph) ≡ true → NextFresh ph (again n number ph)
-again-fresh n number ph h = cond-holds (NextFresh ph) (ltb (tries ph) n) (Sends number (oneMore ph)) Released h tt
+again-fresh : (l : Limits) (number : ℕ) (ph : Phase) → fresh ph (oneMore ph) ≡ true → NextFresh ph (again l number ph)
+again-fresh l number ph h = cond-holds (NextFresh ph) (ltb (tries ph) (l .tries)) (Sends number (oneMore ph)) Released h tt
 
-row-fresh : (n : ℕ) (l : Limits) (ph : Phase) (v : ℕ) → All (λ c. NextFresh ph (play n l ph v c)) (table ph)
-row-fresh n l (Connecting t) v =
-    (tt, (refl, (tt, (again-fresh n _ (Connecting t) (eq-eqb (t + 1) (t + 1) refl), (tt, (tt, tt))))))
-row-fresh n l (Contacting t) v = (
+row-fresh : (l : Limits) (ph : Phase) (v : ℕ) → All (λ c. NextFresh ph (play l ph v c)) (table ph)
+row-fresh l (Connecting t) v =
+    (tt, (refl, (tt, (again-fresh l _ (Connecting t) (eq-eqb (t + 1) (t + 1) refl), (tt, (tt, tt))))))
+row-fresh l (Contacting t) v = (
   tt,
   (
     tt,
     (
       tt,
       (
-        again-fresh n _ (Contacting t) (eq-eqb (t + 1) (t + 1) refl),
+        again-fresh l _ (Contacting t) (eq-eqb (t + 1) (t + 1) refl),
         (judged-case (NextFresh (Contacting t)) l v refl refl, (tt, tt)),
       ),
     ),
   ),
 )
-row-fresh n l Open v = (refl, (tt, (refl, (tt, (tt, (tt, tt))))))
-row-fresh n l (Lost t) v =
-    (tt, (refl, (tt, (again-fresh n _ (Lost t) (eq-eqb (t + 1) (t + 1) refl), (tt, (tt, tt))))))
-row-fresh n l (Ending t) v =
-    (tt, (tt, (tt, (again-fresh n _ (Ending t) (eq-eqb (t + 1) (t + 1) refl), (tt, (tt, tt))))))
+row-fresh l Open v = (refl, (tt, (refl, (tt, (tt, (tt, tt))))))
+row-fresh l (Lost t) v =
+    (tt, (refl, (tt, (again-fresh l _ (Lost t) (eq-eqb (t + 1) (t + 1) refl), (tt, (tt, tt))))))
+row-fresh l (Ending t) v =
+    (tt, (tt, (tt, (again-fresh l _ (Ending t) (eq-eqb (t + 1) (t + 1) refl), (tt, (tt, tt))))))
 
 -- no turn carries the old phase's tries into another phase
 -- promise
-pub turn-fresh : (n : ℕ) (l : Limits) (ph : Phase) (e : PartnerEvent) → onNext (λ q. fresh ph q ≡ true) (turn n l ph e)
-turn-fresh n l = by-row NextFresh n l (row-fresh n l) (λ ph. tt)
+pub turn-fresh : (l : Limits) (ph : Phase) (e : PartnerEvent) → onNext (λ q. fresh ph q ≡ true) (turn l ph e)
+turn-fresh l = by-row NextFresh l (row-fresh l) (λ ph. tt)

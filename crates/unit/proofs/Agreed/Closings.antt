@@ -9,7 +9,7 @@ use lib.Dec.{eqb}
 use lib.ListN.{getD}
 use lib.Seq.{getD-set-other}
 use borrow.Author.Tests.{eqb-true, eqb-false}
-use Rattle.record.specs.Partners.{isRbc}
+use Rattle.record.specs.Partners.{isRbc, reserved}
 use Rattle.record.specs.Records.{missionEnded}
 use Rattle.record.specs.declared.partner.Partner.{Partner}
 use Rattle.record.specs.declared.event.Cause.{Cause}
@@ -28,6 +28,7 @@ use Rattle.place.specs.declared.place.Place.{Place}
 use Rattle.place.specs.declared.turn.Turn.the-variants.{Stays}
 use Rattle.place.specs.declared.turn.Closing.{Closing}
 use Rattle.place.specs.declared.turn.Closing.the-variants.{Every, Sessions, Nothing}
+use Rattle.unit.specs.Lasts.{meant}
 use Rattle.unit.specs.States.{seek}
 use Rattle.unit.specs.Steps.{inForce, closed, displaced, admitted, orderedAt, step}
 use Rattle.unit.specs.declared.state.State.{State}
@@ -74,14 +75,14 @@ closed-done which (p ∷ ps) =
 
 -- "End all: closes every place .. that is not Ending"; mission "0 also ends all"
 -- promise
-pub end-all-closes : (n : ℕ) (s : State) → weigh (here (isClosedBy Every)) (step n s EndAll .state .places) ≡ 0
+pub end-all-closes : (s : State) → weigh (here (isClosedBy Every)) (step s EndAll .state .places) ≡ 0
 unfolding step
-end-all-closes n s = closed-done Every (s .places)
+end-all-closes s = closed-done Every (s .places)
 
 -- promise
-pub mission-closes : (n : ℕ) (s : State) → weigh (here (isClosedBy Every)) (step n s (Mission missionEnded) .state .places) ≡ 0
+pub mission-closes : (s : State) → weigh (here (isClosedBy Every)) (step s (Mission missionEnded) .state .places) ≡ 0
 unfolding step
-mission-closes n s = closed-done Every (s .places)
+mission-closes s = closed-done Every (s .places)
 
 -- a partner without a place stands at no number
 absent : (p : Partner) (ps : List Place) (i : ℕ) → weigh (here (holds p)) ps ≡ 0 → holds p (getD ps i vacant) ≡ true → ⊥
@@ -111,11 +112,16 @@ module _ (s : State) (p : Partner) where
       ∙ held)))
   ordered-place accepting cause Full ok h i held = absurd (omega arith)
 
-  -- "A place freed by this same order is not counted as free for it"
-  -- promise
-  pub order-place : (n : ℕ) (accepting : Bool) (cause : Cause) → WasFree s p (step n s (Order p accepting cause))
-  unfolding step
-  order-place n accepting cause =
-      cond-case (WasFree s p) (inForce cause (s .train) (s .marks)) _ _
-      (λ in-force. ordered-place accepting cause (seek p (s .places)) (seek-ok p (s .places)))
-      (λ not-in-force h. absurd (omega arith))
+-- "A place freed by this same order is not counted as free for it": of the partner that is meant
+-- promise
+pub order-place : (s : State) (p : Partner) (accepting : Bool) (cause : Cause)
+    → WasFree s (meant (s .last) p) (step s (Order p accepting cause))
+unfolding step
+order-place s p accepting cause =
+    let q = meant (s .last) p in
+    cond-case (WasFree s q) (inForce cause (s .train) (s .marks)) _ _
+    (λ in-force.
+    cond-case (WasFree s q) (reserved q) _ _
+    (λ unknown accepted. absurd (omega arith))
+    (λ known. ordered-place s q accepting cause (seek q (s .places)) (seek-ok q (s .places))))
+    (λ other accepted. absurd (omega arith))

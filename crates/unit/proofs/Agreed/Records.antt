@@ -13,9 +13,9 @@ use Rattle.unit.specs.declared.run.Tally.{Tally}
 
 -- of two records, here two mode changes, both are read
 -- promise
-pub both-read : (n : ℕ) (t : Tally) → go n 2 t (3 ∷ 3 ∷ []) .tally .read ≡ t .read + 1 + 1
+pub both-read : (t : Tally) → go 2 t (3 ∷ 3 ∷ []) .tally .read ≡ t .read + 1 + 1
 unfolding course tallied taken takeOne counted
-both-read n t = refl
+both-read t = refl
 
 -- "A record refused with 3 to 9 is counted": as refused
 -- promise

@@ -11,20 +11,20 @@ use Rattle.unit.specs.declared.state.State.{State}
 use Rattle.unit.proofs.Shapes.{Shape, refuses, notes, closesEvery, orders, calls, turns, shape, on-record}
 use Rattle.unit.specs.Kept.{Kept}
 
-module _ (n : ℕ) (s : State) where
-  kept : {e : Event} {c : Concern} {o : Outcome} → Shape n s e c o → Kept s o
+module _ (s : State) where
+  kept : {e : Event} {c : Concern} {o : Outcome} → Shape s e c o → Kept s o
   kept (refuses r may said) = λ other. (refl, refl)
   kept (notes t m within) = λ other. absurd (other refl)
   kept (closesEvery t within) = λ other. absurd (other refl)
   kept (orders p which m i within ok found) = λ other. absurd (other refl)
   kept (calls p i ok rbc found) = λ other. absurd (other refl)
-  kept (turns p event i found taken) = λ other. absurd (other refl)
+  kept (turns p event i ok found taken) = λ other. absurd (other refl)
 
   -- promise
-  pub step-kept : (e : Event) → Kept s (step n s e)
-  step-kept e = kept (shape n s e)
+  pub step-kept : (e : Event) → Kept s (step s e)
+  step-kept e = kept (shape s e)
 
   -- promise
-  pub onRecord-kept : (bytes : List ℕ) (room : ℕ) → Kept s (onRecord n s bytes room)
+  pub onRecord-kept : (bytes : List ℕ) (room : ℕ) → Kept s (onRecord s bytes room)
   onRecord-kept bytes room =
-      on-record n s (Kept s) bytes room (λ r some other. (refl, refl)) (λ e is good ok. step-kept e)
+      on-record s (Kept s) bytes room (λ r some other. (refl, refl)) (λ e is good ok. step-kept e)

@@ -25,28 +25,28 @@ use Rattle.unit.proofs.Searches.{found-ok}
 use Rattle.unit.proofs.Shapes.{ToldOf, says, silent, Told, told-none, Shape, refuses, notes, closesEvery, orders, calls, turns, shape, by-reading}
 use Rattle.unit.proofs.Facts.{sound-facts}
 
-module _ (n : ℕ) (s : State) where
+module _ (s : State) where
   none : (c : Concern) → Told (s .places) c refusal.accepted nowhere
   none c = told-none (s .places) c refusal.accepted (λ h. omega arith) (λ h. omega arith)
 
-  told-by : {e : Event} {c : Concern} {o : Outcome} → Shape n s e c o → Told (s .places) c (o .code) (o .standing)
+  told-by : {e : Event} {c : Concern} {o : Outcome} → Shape s e c o → Told (s .places) c (o .code) (o .standing)
   told-by (refuses r may said) = said
   told-by (notes t m within) = refl
   told-by (closesEvery t within) = refl
   told-by (orders p which m i within ok found) = none (orderTo p)
   told-by (calls p i ok rbc found) = none (callOf p)
-  told-by (turns p event i found taken) = none (naming p event)
+  told-by (turns p event i ok found taken) = none (naming p event)
 
   -- what every step tells, by its number
-  pub step-told : (e : Event) → Told (s .places) (concern e) (step n s e .code) (step n s e .standing)
-  step-told e = told-by (shape n s e)
+  pub step-told : (e : Event) → Told (s .places) (concern (s .last) e) (step s e .code) (step s e .standing)
+  step-told e = told-by (shape s e)
 
   -- and the step on a record
   pub onRecord-told : (bytes : List ℕ) (room : ℕ)
-      → Told (s .places) (concernOf (reading bytes)) (onRecord n s bytes room .code) (onRecord n s bytes room .standing)
+      → Told (s .places) (concernOf (s .last) (reading bytes)) (onRecord s bytes room .code) (onRecord s bytes room .standing)
   onRecord-told bytes room =
-      let c = concernOf (reading bytes) in
-      by-reading n s (λ o. Told (s .places) c (o .code) (o .standing)) bytes room
+      let c = concernOf (s .last) (reading bytes) in
+      by-reading s (λ o. Told (s .places) c (o .code) (o .standing)) bytes room
       (told-none (s .places) c refusal.noRoom (λ h. omega arith) (λ h. omega arith))
       (told-none (s .places) c refusal.notSound (λ h. omega arith) (λ h. omega arith))
       (λ r is low high. told-none (s .places) c r (λ h. omega arith) (λ h. omega arith))
@@ -112,73 +112,73 @@ module _ (ps : List Place) (c : Concern) (r : ℕ) (w : Standing) where
   said-else told other =
       by-partner (λ none nothing. nothing) (λ p of back. told-else ps p r of (λ is. other (inl is)) (λ is. other (inr is))) told
 
-module _ (n : ℕ) (s : State) where
+module _ (s : State) where
   -- the step on values, from any state of four places
   module _ (four : length (s .places) ≡ placeCount) (e : Event) where
     -- where the place is not 4, the state has the partner there, in that phase
     -- promise
-    pub step-stands : (step n s e .standing .place ≡ placeCount → ⊥) → Says (s .places) (concern e) (step n s e .standing)
-    step-stands = said-there (s .places) (concern e) (step n s e .code) (step n s e .standing) four (step-told n s e)
+    pub step-stands : (step s e .standing .place ≡ placeCount → ⊥) → Says (s .places) (concern (s .last) e) (step s e .standing)
+    step-stands = said-there (s .places) (concern (s .last) e) (step s e .code) (step s e .standing) four (step-told s e)
 
     -- "Refusals 5 and 7 then carry place and phase": a refused order, call or partner's event always says them
     -- promise
-    pub step-says : (concern e ≡ nobody → ⊥) → Numbered (step n s e .code) → Says (s .places) (concern e) (step n s e .standing)
-    step-says = said-always (s .places) (concern e) (step n s e .code) (step n s e .standing) four (step-told n s e)
+    pub step-says : (concern (s .last) e ≡ nobody → ⊥) → Numbered (step s e .code) → Says (s .places) (concern (s .last) e) (step s e .standing)
+    step-says = said-always (s .places) (concern (s .last) e) (step s e .code) (step s e .standing) four (step-told s e)
 
   module _ (e : Event) where
     -- "and every other answer, carries place 4 and phase 0"
     -- promise
-    pub step-silent : (Numbered (step n s e .code) → ⊥) → step n s e .standing ≡ nowhere
-    step-silent = said-else (s .places) (concern e) (step n s e .code) (step n s e .standing) (step-told n s e)
+    pub step-silent : (Numbered (step s e .code) → ⊥) → step s e .standing ≡ nowhere
+    step-silent = said-else (s .places) (concern (s .last) e) (step s e .code) (step s e .standing) (step-told s e)
 
     -- "7 for a hole": an event that concerns nobody
     -- promise
-    pub step-hole : concern e ≡ nobody → step n s e .standing ≡ nowhere
-    step-hole none = subst (λ c. Told (s .places) c (step n s e .code) (step n s e .standing)) none (step-told n s e)
+    pub step-hole : concern (s .last) e ≡ nobody → step s e .standing ≡ nowhere
+    step-hole none = subst (λ c. Told (s .places) c (step s e .code) (step s e .standing)) none (step-told s e)
 
   -- the step on a record, from any state at all
   module _ (bytes : List ℕ) (room : ℕ) where
     by-step : (P : ℕ → Standing → Type 0)
         → ((r : ℕ) → (Numbered r → ⊥) → P r nowhere)
-        → ((r : ℕ) (w : Standing) → length (s .places) ≡ placeCount → Told (s .places) (concernOf (reading bytes)) r w → P r w)
-        → P (onRecord n s bytes room .code) (onRecord n s bytes room .standing)
+        → ((r : ℕ) (w : Standing) → length (s .places) ≡ placeCount → Told (s .places) (concernOf (s .last) (reading bytes)) r w → P r w)
+        → P (onRecord s bytes room .code) (onRecord s bytes room .standing)
     by-step P refusals steps =
-        by-reading n s (λ o. P (o .code) (o .standing)) bytes room
+        by-reading s (λ o. P (o .code) (o .standing)) bytes room
         (refusals refusal.noRoom (⊎-elim (λ h. omega arith) (λ h. omega arith)))
         (refusals refusal.notSound (⊎-elim (λ h. omega arith) (λ h. omega arith)))
         (λ r is low high. refusals r (⊎-elim (λ h. omega arith) (λ h. omega arith)))
         (λ e is good ok.
-        steps (step n s e .code) (step n s e .standing) (sound-facts n s good .four)
-        (subst (λ x. Told (s .places) (concernOf x) (step n s e .code) (step n s e .standing)) (sym is) (step-told n s e)))
+        steps (step s e .code) (step s e .standing) (sound-facts s good .four)
+        (subst (λ x. Told (s .places) (concernOf (s .last) x) (step s e .code) (step s e .standing)) (sym is) (step-told s e)))
 
     -- promise
     pub place-stands :
-        (onRecord n s bytes room .standing .place ≡ placeCount → ⊥)
-        → Says (s .places) (concernOf (reading bytes)) (onRecord n s bytes room .standing)
+        (onRecord s bytes room .standing .place ≡ placeCount → ⊥)
+        → Says (s .places) (concernOf (s .last) (reading bytes)) (onRecord s bytes room .standing)
     place-stands =
-        let c = concernOf (reading bytes) in
+        let c = concernOf (s .last) (reading bytes) in
         by-step (λ r w. (w .place ≡ placeCount → ⊥) → Says (s .places) c w)
         (λ r other place. absurd (place refl))
         (λ r w. said-there (s .places) c r w)
 
     -- promise
     pub refused-says :
-        (concernOf (reading bytes) ≡ nobody → ⊥)
-        → Numbered (onRecord n s bytes room .code)
-        → Says (s .places) (concernOf (reading bytes)) (onRecord n s bytes room .standing)
+        (concernOf (s .last) (reading bytes) ≡ nobody → ⊥)
+        → Numbered (onRecord s bytes room .code)
+        → Says (s .places) (concernOf (s .last) (reading bytes)) (onRecord s bytes room .standing)
     refused-says some =
-        let c = concernOf (reading bytes) in
+        let c = concernOf (s .last) (reading bytes) in
         by-step (λ r w. Numbered r → Says (s .places) c w)
         (λ r other number. absurd (other number))
         (λ r w four told. said-always (s .places) c r w four told some)
 
     -- promise
-    pub others-silent : (Numbered (onRecord n s bytes room .code) → ⊥) → onRecord n s bytes room .standing ≡ nowhere
+    pub others-silent : (Numbered (onRecord s bytes room .code) → ⊥) → onRecord s bytes room .standing ≡ nowhere
     others-silent =
-        said-else (s .places) (concernOf (reading bytes)) (onRecord n s bytes room .code) (onRecord n s bytes room .standing)
-        (onRecord-told n s bytes room)
+        said-else (s .places) (concernOf (s .last) (reading bytes)) (onRecord s bytes room .code) (onRecord s bytes room .standing)
+        (onRecord-told s bytes room)
 
     -- promise
-    pub nobody-silent : concernOf (reading bytes) ≡ nobody → onRecord n s bytes room .standing ≡ nowhere
+    pub nobody-silent : concernOf (s .last) (reading bytes) ≡ nobody → onRecord s bytes room .standing ≡ nowhere
     nobody-silent none =
-        subst (λ c. Told (s .places) c (onRecord n s bytes room .code) (onRecord n s bytes room .standing)) none (onRecord-told n s bytes room)
+        subst (λ c. Told (s .places) c (onRecord s bytes room .code) (onRecord s bytes room .standing)) none (onRecord-told s bytes room)

@@ -38,8 +38,8 @@ module _ (acts : List Action) (buffer : List ℕ) where
 
 -- "A refused step .. writes nothing"
 -- promise
-pub onRecord-writes-nothing : (n : ℕ) (s : State) (bytes : List ℕ) (room : ℕ) (buffer : List ℕ)
-    → (onRecord n s bytes room .code ≡ accepted → ⊥)
-    → written (onRecord n s bytes room .actions) buffer ≡ buffer
-onRecord-writes-nothing n s bytes room buffer refused =
-    ap (λ acts. written acts buffer) (onRecord-kept n s bytes room refused .1) ∙ written-none buffer
+pub onRecord-writes-nothing : (s : State) (bytes : List ℕ) (room : ℕ) (buffer : List ℕ)
+    → (onRecord s bytes room .code ≡ accepted → ⊥)
+    → written (onRecord s bytes room .actions) buffer ≡ buffer
+onRecord-writes-nothing s bytes room buffer refused =
+    ap (λ acts. written acts buffer) (onRecord-kept s bytes room refused .1) ∙ written-none buffer

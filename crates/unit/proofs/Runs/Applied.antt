@@ -28,10 +28,10 @@ use Rattle.unit.specs.declared.run.Totals.{Totals}
 use Rattle.unit.specs.declared.run.Tally.{Tally}
 use Rattle.unit.proofs.Runs.Tallies.{counted-done, counted-kept}
 
-module _ (n : ℕ) (s : State) (bytes : List ℕ) (good : sound n s ≡ true) (r : Reading) (means : r ≡ reading bytes) where
+module _ (s : State) (bytes : List ℕ) (good : sound s ≡ true) (r : Reading) (means : r ≡ reading bytes) where
   -- the step on a record is the step on what it reads as
-  pub applied-reading : onRecord n s bytes actionRoom ≡ onReading n s r
-  applied-reading = on-reading n s bytes actionRoom (lit≤ tt) r good (sym means)
+  pub applied-reading : onRecord s bytes actionRoom ≡ onReading s r
+  applied-reading = on-reading s bytes actionRoom (lit≤ tt) r good (sym means)
 
 -- a reading's refusal has a number
 pub refusal-numbered : (r : Reading) (code : ℕ) → readingOk r ≡ true → r ≡ Refused code → code ≡ accepted → ⊥
@@ -60,12 +60,12 @@ applied-done t k o a totals e few code sum =
     ∙ counted-done t k o (sym (ap (λ x. x .code) e) ∙ code)
 
 -- a step that was refused, counted
-pub applied-kept : (t : Tally) (k n : ℕ) (e : Event) (a : Answer)
-    → a ≡ packed (step n (t .state) e)
+pub applied-kept : (t : Tally) (k : ℕ) (e : Event) (a : Answer)
+    → a ≡ packed (step (t .state) e)
     → (a .code ≡ accepted → ⊥)
-    → counted t k (refused outOfRange (t .state)) ≡ counted t k (step n (t .state) e)
+    → counted t k (refused outOfRange (t .state)) ≡ counted t k (step (t .state) e)
 unfolding packed
-applied-kept t k n e a is other =
-    let code : step n (t .state) e .code ≡ accepted → ⊥ = λ h. other (ap (λ x. x .code) is ∙ h) in
-    let kept = step-kept n (t .state) e code in
-    counted-kept t k (step n (t .state) e) code (kept .0) (kept .1)
+applied-kept t k e a is other =
+    let code : step (t .state) e .code ≡ accepted → ⊥ = λ h. other (ap (λ x. x .code) is ∙ h) in
+    let kept = step-kept (t .state) e code in
+    counted-kept t k (step (t .state) e) code (kept .0) (kept .1)

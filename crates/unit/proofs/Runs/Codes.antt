@@ -1,6 +1,7 @@
--- In a run no record is refused with 1, 2, 10 or 11: each step's number is 0 or 3 to 9.
+-- In a run no record is refused with 1, 2, 10 or 11: each step's number is 0, 3 to 9, or 15.
 -- Proves: step-code, steps-codes, run-codes.
 use mathlib.Core.Path.{_≡_, refl, sym, ap, _∙_}
+use mathlib.Core.Logic.{inl, inr}
 use mathlib.Core.Bool.{Bool, true, false, cond, _&&_, _||_}
 use mathlib.Core.List.{List, [], _∷_}
 use Prim.Native.Nat.{ℕ, zero, suc, _≤_, _<_}
@@ -18,7 +19,7 @@ use Rattle.unit.specs.Steps.{Outcome, step}
 use Rattle.unit.specs.Standings.{Concern}
 use Rattle.unit.specs.OnRecords.{actionRoom, onReading, onRecord}
 use Rattle.unit.specs.declared.state.State.{State}
-use Rattle.unit.proofs.Shapes.{Shape, refuses, notes, closesEvery, orders, calls, turns, shape}
+use Rattle.unit.proofs.Shapes.{StepRefusal, Shape, refuses, notes, closesEvery, orders, calls, turns, shape}
 use Rattle.unit.proofs.Sound.{onRecord-sound}
 use Rattle.record.specs.Takes.{longestLog, takeOne, taken, onTaken}
 use Rattle.unit.specs.Runs.{stops, applies, course, stepsOf, steps, fresh, go, runRefused, run, runCode, allCodes}
@@ -32,60 +33,59 @@ abbrev Fine : Outcome → Type 0
 Fine o = runCode (o .code) ≡ true
 
 -- the numbers with which a step is refused are among those of a run
-refused-fine : (r : ℕ) → refusal.notInForce ≤ r → r ≤ refusal.callFromRiu → runCode r ≡ true
-refused-fine r low high = by (eqb r refusal.accepted)
+refused-fine : (r : ℕ) → StepRefusal r → runCode r ≡ true
+refused-fine r (inl range) = by (eqb r refusal.accepted)
   where
     within : (leb refusal.outOfRange r && leb r refusal.callFromRiu) ≡ true
-    within = and-both _ _ (le-leb refusal.outOfRange r (omega arith)) (le-leb r refusal.callFromRiu high)
+    within = and-both _ _ (le-leb refusal.outOfRange r (omega arith)) (le-leb r refusal.callFromRiu (range .1))
 
-    by : (b : Bool) → (b || (leb refusal.outOfRange r && leb r refusal.callFromRiu)) ≡ true
+    by : (b : Bool) → (b || ((leb refusal.outOfRange r && leb r refusal.callFromRiu) || eqb r refusal.noneKnown)) ≡ true
     by true = refl
-    by false = within
+    by false = ap (λ b. b || eqb r refusal.noneKnown) within
+refused-fine r (inr is) = ap runCode is
 
-module _ (n : ℕ) (s : State) where
-  code : {e : Event} {c : Concern} {o : Outcome} → Shape n s e c o → Fine o
-  code (refuses r may said) = refused-fine r (may .0) (may .1)
+module _ (s : State) where
+  code : {e : Event} {c : Concern} {o : Outcome} → Shape s e c o → Fine o
+  code (refuses r may said) = refused-fine r may
   code (notes t m within) = refl
   code (closesEvery t within) = refl
   code (orders p which m i within ok found) = refl
   code (calls p i ok rbc found) = refl
-  code (turns p event i found taken) = refl
+  code (turns p event i ok found taken) = refl
 
   -- the number of a step on an event
-  pub step-code : (e : Event) → runCode (step n s e .code) ≡ true
-  step-code e = code (shape n s e)
+  pub step-code : (e : Event) → runCode (step s e .code) ≡ true
+  step-code e = code (shape s e)
 
-  fields-code : (kind : ℕ) (bytes : List ℕ) → Fine (onReading n s (fields (bodyOf kind) bytes))
+  fields-code : (kind : ℕ) (bytes : List ℕ) → Fine (onReading s (fields (bodyOf kind) bytes))
   fields-code kind bytes =
-      cond-holds (λ r. Fine (onReading n s r)) (bodyOf kind .ranges bytes) (Meant (bodyOf kind .means bytes)) (Refused refusal.outOfRange)
+      cond-holds (λ r. Fine (onReading s r)) (bodyOf kind .ranges bytes) (Meant (bodyOf kind .means bytes)) (Refused refusal.outOfRange)
       (step-code (bodyOf kind .means bytes))
       refl
 
 -- the steps of a run
-pub steps-codes : (n : ℕ)
-    → 1 ≤ n
-    → (budget : ℕ) (s : State) (log : List ℕ)
-    → sound n s ≡ true
+pub steps-codes : (budget : ℕ) (s : State) (log : List ℕ)
+    → sound s ≡ true
     → length log ≤ longestLog
-    → allCodes (steps n budget s log) ≡ true
+    → allCodes (steps budget s log) ≡ true
 unfolding course stepsOf allCodes taken takeOne
-steps-codes n some-try zero s [] good small = refl
-steps-codes n some-try zero s (x ∷ log) good small = refl
-steps-codes n some-try (suc budget) s [] good small = refl
-steps-codes n some-try (suc budget) s (x ∷ log) good small =
+steps-codes zero s [] good small = refl
+steps-codes zero s (x ∷ log) good small = refl
+steps-codes (suc budget) s [] good small = refl
+steps-codes (suc budget) s (x ∷ log) good small =
     by (taken (x ∷ log)) refl
     (λ k.
-    steps-codes n some-try budget (onRecord n s (take k (x ∷ log)) actionRoom .state) (drop k (x ∷ log))
-    (onRecord-sound n some-try s (take k (x ∷ log)) actionRoom good)
+    steps-codes budget (onRecord s (take k (x ∷ log)) actionRoom .state) (drop k (x ∷ log))
+    (onRecord-sound s (take k (x ∷ log)) actionRoom good)
     (simp length-drop (omega arith)))
   where
     next : ℕ → Outcome
-    next k = onRecord n s (take k (x ∷ log)) actionRoom
+    next k = onRecord s (take k (x ∷ log)) actionRoom
 
     by : (found : Taken)
         → taken (x ∷ log) ≡ found
-        → ((k : ℕ) → allCodes (steps n budget (next k .state) (drop k (x ∷ log))) ≡ true)
-        → allCodes (stepsOf (onTaken found stops (λ k. applies (take k (x ∷ log)) (next k) (course n budget (next k .state) (drop k (x ∷ log)))))) ≡ true
+        → ((k : ℕ) → allCodes (steps budget (next k .state) (drop k (x ∷ log))) ≡ true)
+        → allCodes (stepsOf (onTaken found stops (λ k. applies (take k (x ∷ log)) (next k) (course budget (next k .state) (drop k (x ∷ log)))))) ≡ true
     by (front.Stopped stop) e rest = refl
     by (front.Refused r) e rest = refl
     by (front.Whole k r) e rest =
@@ -93,22 +93,20 @@ steps-codes n some-try (suc budget) s (x ∷ log) good small =
         let below : 0 < length (x ∷ log) = omega arith in
         let ok = whole-ok (x ∷ log) 0 k r below (sym (taken-short (x ∷ log) small) ∙ e) in
         let reads = part-reads (x ∷ log) 0 below k (ok .0) (λ none. omega (arith, ok .1)) (ok .2) bytes refl in
-        and-both (runCode (next k .code)) (allCodes (steps n budget (next k .state) (drop k (x ∷ log))))
-        (ap (λ o. runCode (o .code)) (applied-reading n s bytes good (fields (bodyOf x) bytes) reads) ∙ fields-code n s x bytes)
+        and-both (runCode (next k .code)) (allCodes (steps budget (next k .state) (drop k (x ∷ log))))
+        (ap (λ o. runCode (o .code)) (applied-reading s bytes good (fields (bodyOf x) bytes) reads) ∙ fields-code s x bytes)
         (rest k)
 
 -- "In every run that is not itself refused": from any state, whatever the log and the budget
 -- promise
-pub run-codes : (n : ℕ)
-    → 1 ≤ n
-    → (s : State) (log : List ℕ) (budget : ℕ)
-    → run n s log budget .code ≡ refusal.accepted
-    → allCodes (steps n budget s log) ≡ true
+pub run-codes : (s : State) (log : List ℕ) (budget : ℕ)
+    → run s log budget .code ≡ refusal.accepted
+    → allCodes (steps budget s log) ≡ true
 unfolding run
-run-codes n some-try s log budget =
-    cond-case (λ r. r .code ≡ refusal.accepted → allCodes (steps n budget s log) ≡ true) (leb (length log) longestLog) (cond (sound n s) (go n budget (fresh s) log) (runRefused refusal.notSound s)) (runRefused refusal.logTooLong s)
+run-codes s log budget =
+    cond-case (λ r. r .code ≡ refusal.accepted → allCodes (steps budget s log) ≡ true) (leb (length log) longestLog) (cond (sound s) (go budget (fresh s) log) (runRefused refusal.notSound s)) (runRefused refusal.logTooLong s)
     (λ fits.
-    cond-case (λ r. r .code ≡ refusal.accepted → allCodes (steps n budget s log) ≡ true) (sound n s) (go n budget (fresh s) log) (runRefused refusal.notSound s)
-    (λ good h. steps-codes n some-try budget s log good (leb-true (length log) longestLog fits))
+    cond-case (λ r. r .code ≡ refusal.accepted → allCodes (steps budget s log) ≡ true) (sound s) (go budget (fresh s) log) (runRefused refusal.notSound s)
+    (λ good h. steps-codes budget s log good (leb-true (length log) longestLog fits))
     (λ bad h. absurd (omega arith)))
     (λ long h. absurd (omega arith))

@@ -56,31 +56,31 @@ whole-ok log at k r below e = subst (WholeOk log at) (sym (by-kind log at below)
         (λ short. tt))
         (λ unknown. tt)
 
-module _ (n : ℕ) (some-try : 1 ≤ n) (log : List ℕ) (t : Tally) (k : ℕ) (r : Reading) (below : t .offset < length log) (small : length log ≤ longestLog) (e : takeOne (drop (t .offset) log) ≡ Whole k r) where
+module _ (log : List ℕ) (t : Tally) (k : ℕ) (r : Reading) (below : t .offset < length log) (small : length log ≤ longestLog) (e : takeOne (drop (t .offset) log) ≡ Whole k r) where
   -- what counting it asks
   pub whole-ready :
       Bounded t
-      → sound n (t .state) ≡ true
-      → Bounded t × (t .offset + k ≤ longestLog) × (sound n (t .state) ≡ true) × (readingOk r ≡ true)
+      → sound (t .state) ≡ true
+      → Bounded t × (t .offset + k ≤ longestLog) × (sound (t .state) ≡ true) × (readingOk r ≡ true)
   whole-ready bounded good =
       let ok = whole-ok log (t .offset) k r below e in
       (bounded, omega (arith, ok .2), good, subst (λ x. readingOk x ≡ true) (sym (ok .3)) (reading-ok (take k (drop (t .offset) log))))
 
   next : Tally
-  next = counted t k (onRecord n (t .state) (take k (drop (t .offset) log)) actionRoom)
+  next = counted t k (onRecord (t .state) (take k (drop (t .offset) log)) actionRoom)
 
-  module _ (good : sound n (t .state) ≡ true) (u : Tally) (applied : u ≡ counted t k (onReading n (t .state) r)) where
+  module _ (good : sound (t .state) ≡ true) (u : Tally) (applied : u ≡ counted t k (onReading (t .state) r)) where
     is-next : u ≡ next
     unfolding next
     is-next =
         let ok = whole-ok log (t .offset) k r below e in
-        applied ∙ ap (counted t k) (sym (applied-reading n (t .state) (take k (drop (t .offset) log)) good r (ok .3)))
+        applied ∙ ap (counted t k) (sym (applied-reading (t .state) (take k (drop (t .offset) log)) good r (ok .3)))
 
     offset-next : u .offset ≡ t .offset + k
     unfolding next counted
     offset-next = ap (λ x. x .offset) is-next
 
-    state-next : u .state ≡ onRecord n (t .state) (take k (drop (t .offset) log)) actionRoom .state
+    state-next : u .state ≡ onRecord (t .state) (take k (drop (t .offset) log)) actionRoom .state
     unfolding next counted
     state-next = ap (λ x. x .state) is-next
 
@@ -88,15 +88,15 @@ module _ (n : ℕ) (some-try : 1 ≤ n) (log : List ℕ) (t : Tally) (k : ℕ) (
     pub run-next : (left : ℕ)
         → Bounded t
         → (left ≡ 0 → ⊥)
-        → (u .offset ≤ length log) × Bounded u × (sound n (u .state) ≡ true) × (go n left t (drop (t .offset) log) ≡ go n (left - 1) u (drop (u .offset) log))
+        → (u .offset ≤ length log) × Bounded u × (sound (u .state) ≡ true) × (go left t (drop (t .offset) log) ≡ go (left - 1) u (drop (u .offset) log))
     unfolding next
     run-next left bounded some =
         let ok = whole-ok log (t .offset) k r below e in (
           omega (arith, offset-next, ok .2),
           subst Bounded (sym is-next)
-              (bounded-next t k (onRecord n (t .state) (take k (drop (t .offset) log)) actionRoom) bounded (ok .1)
-              (onRecord-few n (t .state) (take k (drop (t .offset) log)) actionRoom)),
-          ap (sound n) state-next ∙ onRecord-sound n some-try (t .state) (take k (drop (t .offset) log)) actionRoom good,
-          go-step n t left some (drop (t .offset) log) k r (taken-short (drop (t .offset) log) (simp length-drop (omega (arith, small))) ∙ e)
-              ∙ ap₂ (λ x l. go n (left - 1) x l) (sym is-next) (drop-drop k (t .offset) log ∙ ap (λ m. drop m log) (sym offset-next)),
+              (bounded-next t k (onRecord (t .state) (take k (drop (t .offset) log)) actionRoom) bounded (ok .1)
+              (onRecord-few (t .state) (take k (drop (t .offset) log)) actionRoom)),
+          ap (sound) state-next ∙ onRecord-sound (t .state) (take k (drop (t .offset) log)) actionRoom good,
+          go-step t left some (drop (t .offset) log) k r (taken-short (drop (t .offset) log) (simp length-drop (omega (arith, small))) ∙ e)
+              ∙ ap₂ (λ x l. go (left - 1) x l) (sym is-next) (drop-drop k (t .offset) log ∙ ap (λ m. drop m log) (sym offset-next)),
         )

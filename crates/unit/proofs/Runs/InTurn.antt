@@ -29,13 +29,13 @@ use Rattle.unit.proofs.Runs.Steps.{tallied-sum, is-go}
 
 -- a record that is taken is applied, and the next is taken where it ends
 -- promise
-pub course-next : (n budget : ℕ) (s : State) (log : List ℕ) (k : ℕ) (r : Reading)
+pub course-next : (budget : ℕ) (s : State) (log : List ℕ) (k : ℕ) (r : Reading)
     → taken log ≡ Whole k r
-    → course n (suc budget) s log
-    ≡ applies (take k log) (onRecord n s (take k log) actionRoom)
-    (course n budget (onRecord n s (take k log) actionRoom .state) (drop k log))
+    → course (suc budget) s log
+    ≡ applies (take k log) (onRecord s (take k log) actionRoom)
+    (course budget (onRecord s (take k log) actionRoom .state) (drop k log))
 unfolding course
-course-next n budget s log k r e = rw e refl
+course-next budget s log k r e = rw e refl
 
 -- the offset of a run never falls
 pub tallied-offset : (t : Tally) (c : Course) → t .offset ≤ tallied t c .tally .offset
@@ -51,15 +51,15 @@ unfolding tallied
 ended-code t (stops stop) = refl
 ended-code t (applies bytes o rest) = ended-code (counted t (length bytes) o) rest
 
-run-code : (n : ℕ) (s : State) (log : List ℕ) (a b : ℕ) → run n s log a .code ≡ refusal.accepted → run n s log b .code ≡ refusal.accepted
+run-code : (s : State) (log : List ℕ) (a b : ℕ) → run s log a .code ≡ refusal.accepted → run s log b .code ≡ refusal.accepted
 unfolding run
-run-code n s log a b =
-    by (leb (length log) longestLog) (sound n s)
+run-code s log a b =
+    by (leb (length log) longestLog) (sound s)
   where
     by : (fits good : Bool)
-        → cond fits (cond good (go n a (fresh s) log) (runRefused refusal.notSound s)) (runRefused refusal.logTooLong s) .code ≡ refusal.accepted
-        → cond fits (cond good (go n b (fresh s) log) (runRefused refusal.notSound s)) (runRefused refusal.logTooLong s) .code ≡ refusal.accepted
-    by true true h = ended-code (fresh s) (course n b s log)
+        → cond fits (cond good (go a (fresh s) log) (runRefused refusal.notSound s)) (runRefused refusal.logTooLong s) .code ≡ refusal.accepted
+        → cond fits (cond good (go b (fresh s) log) (runRefused refusal.notSound s)) (runRefused refusal.logTooLong s) .code ≡ refusal.accepted
+    by true true h = ended-code (fresh s) (course b s log)
     by true false h = h
     by false good h = h
 
@@ -77,102 +77,101 @@ unfolding counted
 counted-read t k o = refl
 
 -- a run that is not refused has a log of the right length and a sound state
-run-facts : (n : ℕ) (s : State) (log : List ℕ) (b : ℕ)
-    → run n s log b .code ≡ refusal.accepted
-    → (length log ≤ longestLog) × (sound n s ≡ true)
+run-facts : (s : State) (log : List ℕ) (b : ℕ)
+    → run s log b .code ≡ refusal.accepted
+    → (length log ≤ longestLog) × (sound s ≡ true)
 unfolding run
-run-facts n s log b =
-    cond-case Facts (leb (length log) longestLog) (cond (sound n s) ran (runRefused refusal.notSound s)) (runRefused refusal.logTooLong s)
+run-facts s log b =
+    cond-case Facts (leb (length log) longestLog) (cond (sound s) ran (runRefused refusal.notSound s)) (runRefused refusal.logTooLong s)
     (λ fits.
-    cond-case Facts (sound n s) ran (runRefused refusal.notSound s)
+    cond-case Facts (sound s) ran (runRefused refusal.notSound s)
     (λ good h. (leb-true (length log) longestLog fits, good))
     (λ bad h. absurd (omega arith)))
     (λ long h. absurd (omega arith))
   where
     ran : Report
-    ran = go n b (fresh s) log
+    ran = go b (fresh s) log
 
     Facts : Report → Type 0
-    Facts r = r .code ≡ refusal.accepted → (length log ≤ longestLog) × (sound n s ≡ true)
+    Facts r = r .code ≡ refusal.accepted → (length log ≤ longestLog) × (sound s ≡ true)
 
-module _ (n : ℕ) where
-  -- no budget, no record
-  go-none : (t : Tally) (log : List ℕ) → go n 0 t log .tally ≡ t
-  unfolding course tallied
-  go-none t [] = refl
-  go-none t (x ∷ log) = refl
+-- no budget, no record
+go-none : (t : Tally) (log : List ℕ) → go 0 t log .tally ≡ t
+unfolding course tallied
+go-none t [] = refl
+go-none t (x ∷ log) = refl
 
-  some : (b : ℕ) → suc b ≡ 0 → ⊥
-  some b e = omega arith
+some : (b : ℕ) → suc b ≡ 0 → ⊥
+some b e = omega arith
 
-  go-suc : (b : ℕ) (t : Tally) (log : List ℕ) (k : ℕ) (r : Reading)
-      → taken log ≡ Whole k r
-      → go n (suc b) t log ≡ go n b (counted t k (onRecord n (t .state) (take k log) actionRoom)) (drop k log)
-  go-suc b t log k r e =
-      let u = counted t k (onRecord n (t .state) (take k log) actionRoom) in
-      let less : suc b - 1 ≡ b = omega arith in
-      go-step n t (suc b) (some b) log k r e ∙ ap (λ j. go n j u (drop k log)) less
+go-suc : (b : ℕ) (t : Tally) (log : List ℕ) (k : ℕ) (r : Reading)
+    → taken log ≡ Whole k r
+    → go (suc b) t log ≡ go b (counted t k (onRecord (t .state) (take k log) actionRoom)) (drop k log)
+go-suc b t log k r e =
+    let u = counted t k (onRecord (t .state) (take k log) actionRoom) in
+    let less : suc b - 1 ≡ b = omega arith in
+    go-step t (suc b) (some b) log k r e ∙ ap (λ j. go j u (drop k log)) less
 
-  -- a run that has taken no record goes on from where it began
-  from-here : (b : ℕ) (t u : Tally) (log : List ℕ)
-      → u ≡ t
-      → go n (suc b) t log ≡ go n (suc b) u (drop (u .offset - t .offset) log)
-  from-here b t u log same =
-      let here : t .offset - t .offset ≡ 0 = omega arith in
-      ap₂ (λ v k. go n (suc b) v (drop k log)) (sym same) (sym (ap (λ v. v .offset - t .offset) same ∙ here))
+-- a run that has taken no record goes on from where it began
+from-here : (b : ℕ) (t u : Tally) (log : List ℕ)
+    → u ≡ t
+    → go (suc b) t log ≡ go (suc b) u (drop (u .offset - t .offset) log)
+from-here b t u log same =
+    let here : t .offset - t .offset ≡ 0 = omega arith in
+    ap₂ (λ v k. go (suc b) v (drop k log)) (sym same) (sym (ap (λ v. v .offset - t .offset) same ∙ here))
 
-  -- the rest of a run of m and more records is the rest of a run of m, then of the others
-  pub go-split : (m b : ℕ) (t : Tally) (log : List ℕ)
-      → go n (m + suc b) t log ≡ go n (suc b) (go n m t log .tally) (drop (go n m t log .tally .offset - t .offset) log)
-  go-split zero b t log =
-      let plus : 0 + suc b ≡ suc b = omega arith in
-      ap (λ j. go n j t log) plus ∙ from-here b t (go n 0 t log .tally) log (go-none t log)
-  go-split (suc m) b t log =
-      let plus : suc m + suc b ≡ suc (m + suc b) = omega arith in
-      ap (λ j. go n j t log) plus ∙ by (taken log) refl (go-split m b)
-    where
-      Rest : Tally → Type 0
-      Rest u = go n (suc (m + suc b)) t log ≡ go n (suc b) u (drop (u .offset - t .offset) log)
+-- the rest of a run of m and more records is the rest of a run of m, then of the others
+pub go-split : (m b : ℕ) (t : Tally) (log : List ℕ)
+    → go (m + suc b) t log ≡ go (suc b) (go m t log .tally) (drop (go m t log .tally .offset - t .offset) log)
+go-split zero b t log =
+    let plus : 0 + suc b ≡ suc b = omega arith in
+    ap (λ j. go j t log) plus ∙ from-here b t (go 0 t log .tally) log (go-none t log)
+go-split (suc m) b t log =
+    let plus : suc m + suc b ≡ suc (m + suc b) = omega arith in
+    ap (λ j. go j t log) plus ∙ by (taken log) refl (go-split m b)
+  where
+    Rest : Tally → Type 0
+    Rest u = go (suc (m + suc b)) t log ≡ go (suc b) u (drop (u .offset - t .offset) log)
 
-      by : (front : Taken)
-          → taken log ≡ front
-          → ((u : Tally) (l : List ℕ) → go n (m + suc b) u l ≡ go n (suc b) (go n m u l .tally) (drop (go n m u l .tally .offset - u .offset) l))
-          → Rest (go n (suc m) t log .tally)
-      by (Stopped stop) e later =
-          let end = ap (λ r. r .tally) (sym (go-stop n t (suc m) (some m) log stop e)) in
-          sym (go-stop n t (suc (m + suc b)) (some (m + suc b)) log stop e)
-          ∙ go-stop n t (suc b) (some b) log stop e
-          ∙ from-here b t (go n (suc m) t log .tally) log end
-      by (Refused r) e later =
-          let end = ap (λ x. x .tally) (sym (go-refused n t (suc m) (some m) log r e)) in
-          sym (go-refused n t (suc (m + suc b)) (some (m + suc b)) log r e)
-          ∙ go-refused n t (suc b) (some b) log r e
-          ∙ from-here b t (go n (suc m) t log .tally) log end
-      by (Whole k r) e later =
-          let o = onRecord n (t .state) (take k log) actionRoom in
-          let u = counted t k o in
-          let end = go n m u (drop k log) .tally in
-          let first : go n (suc m) t log .tally ≡ end = ap (λ r. r .tally) (go-suc m t log k r e) in
-          let grown = tallied-offset u (course n m (u .state) (drop k log)) in
-          let on : k + (end .offset - u .offset) ≡ end .offset - t .offset = omega (arith, grown, counted-offset t k o) in
-          go-suc (m + suc b) t log k r e
-          ∙ later u (drop k log)
-          ∙ ap (λ l. go n (suc b) end l) (drop-drop (end .offset - u .offset) k log ∙ ap (λ j. drop j log) on)
-          ∙ ap (λ v. go n (suc b) v (drop (v .offset - t .offset) log)) (sym first)
+    by : (front : Taken)
+        → taken log ≡ front
+        → ((u : Tally) (l : List ℕ) → go (m + suc b) u l ≡ go (suc b) (go m u l .tally) (drop (go m u l .tally .offset - u .offset) l))
+        → Rest (go (suc m) t log .tally)
+    by (Stopped stop) e later =
+        let end = ap (λ r. r .tally) (sym (go-stop t (suc m) (some m) log stop e)) in
+        sym (go-stop t (suc (m + suc b)) (some (m + suc b)) log stop e)
+        ∙ go-stop t (suc b) (some b) log stop e
+        ∙ from-here b t (go (suc m) t log .tally) log end
+    by (Refused r) e later =
+        let end = ap (λ x. x .tally) (sym (go-refused t (suc m) (some m) log r e)) in
+        sym (go-refused t (suc (m + suc b)) (some (m + suc b)) log r e)
+        ∙ go-refused t (suc b) (some b) log r e
+        ∙ from-here b t (go (suc m) t log .tally) log end
+    by (Whole k r) e later =
+        let o = onRecord (t .state) (take k log) actionRoom in
+        let u = counted t k o in
+        let end = go m u (drop k log) .tally in
+        let first : go (suc m) t log .tally ≡ end = ap (λ r. r .tally) (go-suc m t log k r e) in
+        let grown = tallied-offset u (course m (u .state) (drop k log)) in
+        let on : k + (end .offset - u .offset) ≡ end .offset - t .offset = omega (arith, grown, counted-offset t k o) in
+        go-suc (m + suc b) t log k r e
+        ∙ later u (drop k log)
+        ∙ ap (λ l. go (suc b) end l) (drop-drop (end .offset - u .offset) k log ∙ ap (λ j. drop j log) on)
+        ∙ ap (λ v. go (suc b) v (drop (v .offset - t .offset) log)) (sym first)
 
 -- the run of m + b records is the run of m, then of b from there (b at least 1: a run of no record stops by its budget)
 -- promise
-pub run-split : (n : ℕ) (s : State) (log : List ℕ) (m b : ℕ)
-    → run n s log m .code ≡ refusal.accepted
-    → run n s log (m + suc b) ≡ go n (suc b) (run n s log m .tally) (drop (run n s log m .tally .offset) log)
-run-split n s log m b taken =
-    let here = is-go n s log m taken in
-    let there = is-go n s log (m + suc b) (run-code n s log m (m + suc b) taken) in
-    let none : go n m (fresh s) log .tally .offset - 0 ≡ go n m (fresh s) log .tally .offset = omega arith in
+pub run-split : (s : State) (log : List ℕ) (m b : ℕ)
+    → run s log m .code ≡ refusal.accepted
+    → run s log (m + suc b) ≡ go (suc b) (run s log m .tally) (drop (run s log m .tally .offset) log)
+run-split s log m b taken =
+    let here = is-go s log m taken in
+    let there = is-go s log (m + suc b) (run-code s log m (m + suc b) taken) in
+    let none : go m (fresh s) log .tally .offset - 0 ≡ go m (fresh s) log .tally .offset = omega arith in
     there
-    ∙ go-split n m b (fresh s) log
-    ∙ ap (λ k. go n (suc b) (go n m (fresh s) log .tally) (drop k log)) none
-    ∙ ap (λ r. go n (suc b) (r .tally) (drop (r .tally .offset) log)) (sym here)
+    ∙ go-split m b (fresh s) log
+    ∙ ap (λ k. go (suc b) (go m (fresh s) log .tally) (drop k log)) none
+    ∙ ap (λ r. go (suc b) (r .tally) (drop (r .tally .offset) log)) (sym here)
 
 -- the state and the stop of a course do not hang on what was counted before it
 tallied-alike : (t u : Tally) (c : Course)
@@ -182,47 +181,44 @@ unfolding tallied counted
 tallied-alike t u (stops stop) same = (refl, same)
 tallied-alike t u (applies bytes o rest) same = tallied-alike (counted t (length bytes) o) (counted u (length bytes) o) rest refl
 
-module _ (n : ℕ) (some-try : 1 ≤ n) where
-  -- soundness is kept along a run
-  go-sound : (b : ℕ) (t : Tally) (log : List ℕ) → sound n (t .state) ≡ true → sound n (go n b t log .tally .state) ≡ true
-  go-sound zero t log good = ap (λ u. sound n (u .state)) (go-none n t log) ∙ good
-  go-sound (suc b) t log good = by (taken log) refl (go-sound b)
-    where
-      by : (front : Taken)
-          → taken log ≡ front
-          → ((u : Tally) (l : List ℕ) → sound n (u .state) ≡ true → sound n (go n b u l .tally .state) ≡ true)
-          → sound n (go n (suc b) t log .tally .state) ≡ true
-      by (Stopped stop) e later = ap (λ r. sound n (r .tally .state)) (sym (go-stop n t (suc b) (some n b) log stop e)) ∙ good
-      by (Refused r) e later = ap (λ x. sound n (x .tally .state)) (sym (go-refused n t (suc b) (some n b) log r e)) ∙ good
-      by (Whole k r) e later =
-          let o = onRecord n (t .state) (take k log) actionRoom in
-          let kept = onRecord-sound n some-try (t .state) (take k log) actionRoom good in
-          let state : counted t k o .state ≡ o .state = counted-state t k o in
-          ap (λ x. sound n (x .tally .state)) (go-suc n b t log k r e)
-          ∙ later (counted t k o) (drop k log) (ap (sound n) state ∙ kept)
+-- soundness is kept along a run
+go-sound : (b : ℕ) (t : Tally) (log : List ℕ) → sound (t .state) ≡ true → sound (go b t log .tally .state) ≡ true
+go-sound zero t log good = ap (λ u. sound (u .state)) (go-none t log) ∙ good
+go-sound (suc b) t log good = by (taken log) refl (go-sound b)
+  where
+    by : (front : Taken)
+        → taken log ≡ front
+        → ((u : Tally) (l : List ℕ) → sound (u .state) ≡ true → sound (go b u l .tally .state) ≡ true)
+        → sound (go (suc b) t log .tally .state) ≡ true
+    by (Stopped stop) e later = ap (λ r. sound (r .tally .state)) (sym (go-stop t (suc b) (some b) log stop e)) ∙ good
+    by (Refused r) e later = ap (λ x. sound (x .tally .state)) (sym (go-refused t (suc b) (some b) log r e)) ∙ good
+    by (Whole k r) e later =
+        let o = onRecord (t .state) (take k log) actionRoom in
+        let kept = onRecord-sound (t .state) (take k log) actionRoom good in
+        let state : counted t k o .state ≡ o .state = counted-state t k o in
+        ap (λ x. sound (x .tally .state)) (go-suc b t log k r e)
+        ∙ later (counted t k o) (drop k log) (ap (sound) state ∙ kept)
 
 -- a run that is broken off after m records and taken up there ends as the whole run does, and the records read are those of both
 -- promise
-pub run-again : (n : ℕ)
-    → 1 ≤ n
-    → (s : State) (log : List ℕ) (m b : ℕ)
-    → run n s log m .code ≡ refusal.accepted
-    → (takenUp n s log m (suc b) .code ≡ refusal.accepted)
-    × (takenUp n s log m (suc b) .stop ≡ run n s log (m + suc b) .stop)
-    × (takenUp n s log m (suc b) .tally .state ≡ run n s log (m + suc b) .tally .state)
-    × (run n s log m .tally .read + takenUp n s log m (suc b) .tally .read ≡ run n s log (m + suc b) .tally .read)
-run-again n some-try s log m b accepted =
-    let first = run n s log m in
+pub run-again : (s : State) (log : List ℕ) (m b : ℕ)
+    → run s log m .code ≡ refusal.accepted
+    → (takenUp s log m (suc b) .code ≡ refusal.accepted)
+    × (takenUp s log m (suc b) .stop ≡ run s log (m + suc b) .stop)
+    × (takenUp s log m (suc b) .tally .state ≡ run s log (m + suc b) .tally .state)
+    × (run s log m .tally .read + takenUp s log m (suc b) .tally .read ≡ run s log (m + suc b) .tally .read)
+run-again s log m b accepted =
+    let first = run s log m in
     let rest = drop (first .tally .offset) log in
-    let facts = run-facts n s log m accepted in
-    let state = ap (λ r. sound n (r .tally .state)) (is-go n s log m accepted) ∙ go-sound n some-try m (fresh s) log (facts .1) in
+    let facts = run-facts s log m accepted in
+    let state = ap (λ r. sound (r .tally .state)) (is-go s log m accepted) ∙ go-sound m (fresh s) log (facts .1) in
     let short : length rest ≤ longestLog = simp length-drop (omega (arith, facts .0)) in
-    let up = sym (run-sound n (first .tally .state) rest (suc b) short state) in
-    let whole = run-split n s log m b accepted in
-    let alike = tallied-alike (fresh (first .tally .state)) (first .tally) (course n (suc b) (first .tally .state) rest) refl in
-    let fresh-read = tallied-sum (λ t. t .read) (λ o. 1) counted-read (fresh (first .tally .state)) (course n (suc b) (first .tally .state) rest) in
-    let read = tallied-sum (λ t. t .read) (λ o. 1) counted-read (first .tally) (course n (suc b) (first .tally .state) rest) in (
-      ap (λ r. r .code) up ∙ ended-code (fresh (first .tally .state)) (course n (suc b) (first .tally .state) rest),
+    let up = sym (run-sound (first .tally .state) rest (suc b) short state) in
+    let whole = run-split s log m b accepted in
+    let alike = tallied-alike (fresh (first .tally .state)) (first .tally) (course (suc b) (first .tally .state) rest) refl in
+    let fresh-read = tallied-sum (λ t. t .read) (λ o. 1) counted-read (fresh (first .tally .state)) (course (suc b) (first .tally .state) rest) in
+    let read = tallied-sum (λ t. t .read) (λ o. 1) counted-read (first .tally) (course (suc b) (first .tally .state) rest) in (
+      ap (λ r. r .code) up ∙ ended-code (fresh (first .tally .state)) (course (suc b) (first .tally .state) rest),
       ap (λ r. r .stop) up ∙ alike .0 ∙ sym (ap (λ r. r .stop) whole),
       ap (λ r. r .tally .state) up ∙ alike .1 ∙ sym (ap (λ r. r .tally .state) whole),
       omega (arith, ap (λ r. r .tally .read) up, ap (λ r. r .tally .read) whole, fresh-read, read),

@@ -12,16 +12,16 @@ use Rattle.unit.specs.declared.state.State.{State}
 use Rattle.record.specs.Takes.{longestLog}
 use Rattle.unit.specs.Runs.{fresh, go, runRefused, run}
 
-module _ (n : ℕ) (s : State) (log : List ℕ) (budget : ℕ) where
-  pub run-long : longestLog < length log → runRefused logTooLong s ≡ run n s log budget
+module _ (s : State) (log : List ℕ) (budget : ℕ) where
+  pub run-long : longestLog < length log → runRefused logTooLong s ≡ run s log budget
   unfolding run
   run-long long = simp (lt-leb (length log) longestLog long)
 
   module _ (fits : length log ≤ longestLog) where
-    pub run-unsound : sound n s ≡ false → runRefused notSound s ≡ run n s log budget
+    pub run-unsound : sound s ≡ false → runRefused notSound s ≡ run s log budget
     unfolding run
     run-unsound bad = simp (le-leb (length log) longestLog fits, bad)
 
-    pub run-sound : sound n s ≡ true → go n budget (fresh s) log ≡ run n s log budget
+    pub run-sound : sound s ≡ true → go budget (fresh s) log ≡ run s log budget
     unfolding run
     run-sound good = simp (le-leb (length log) longestLog fits, good)

@@ -36,82 +36,82 @@ sum-one (o ∷ os) =
     omega arith
 
 -- the run that is not refused, as its steps
-module _ (n : ℕ) (s : State) (log : List ℕ) (budget : ℕ) (taken : run n s log budget .code ≡ refusal.accepted) where
-  pub is-go : run n s log budget ≡ go n budget (fresh s) log
+module _ (s : State) (log : List ℕ) (budget : ℕ) (taken : run s log budget .code ≡ refusal.accepted) where
+  pub is-go : run s log budget ≡ go budget (fresh s) log
   unfolding run
   is-go =
-      cond-case (λ r. r .code ≡ refusal.accepted → r ≡ go n budget (fresh s) log) (leb (length log) longestLog) (cond (sound n s) (go n budget (fresh s) log) (runRefused refusal.notSound s)) (runRefused refusal.logTooLong s)
+      cond-case (λ r. r .code ≡ refusal.accepted → r ≡ go budget (fresh s) log) (leb (length log) longestLog) (cond (sound s) (go budget (fresh s) log) (runRefused refusal.notSound s)) (runRefused refusal.logTooLong s)
       (λ fits.
-      cond-holds (λ r. r .code ≡ refusal.accepted → r ≡ go n budget (fresh s) log) (sound n s) (go n budget (fresh s) log) (runRefused refusal.notSound s)
+      cond-holds (λ r. r .code ≡ refusal.accepted → r ≡ go budget (fresh s) log) (sound s) (go budget (fresh s) log) (runRefused refusal.notSound s)
       (λ h. refl)
       (λ h. absurd (omega arith)))
       (λ long h. absurd (omega arith))
       taken
 
   the-steps : List Outcome
-  the-steps = steps n budget s log
+  the-steps = steps budget s log
 
   summed : (f : Tally → ℕ) (w : Outcome → ℕ)
       → ((t : Tally) (k : ℕ) (o : Outcome) → f (counted t k o) ≡ f t + w o)
       → f (fresh s) ≡ 0
-      → f (run n s log budget .tally) ≡ sumOf w the-steps
+      → f (run s log budget .tally) ≡ sumOf w the-steps
   unfolding the-steps
   summed f w each none =
-      ap (λ r. f (r .tally)) is-go ∙ tallied-sum f w each (fresh s) (course n budget s log) ∙ ap (λ x. x + sumOf w (steps n budget s log)) none ∙ zero-add (sumOf w (steps n budget s log))
+      ap (λ r. f (r .tally)) is-go ∙ tallied-sum f w each (fresh s) (course budget s log) ∙ ap (λ x. x + sumOf w (steps budget s log)) none ∙ zero-add (sumOf w (steps budget s log))
 
   -- "Records read are the steps taken"
   -- promise
-  pub run-read : run n s log budget .tally .read ≡ length (steps n budget s log)
+  pub run-read : run s log budget .tally .read ≡ length (steps budget s log)
   unfolding the-steps counted
-  run-read = summed (λ t. t .read) (λ o. 1) (λ t k o. refl) refl ∙ sum-one (steps n budget s log)
+  run-read = summed (λ t. t .read) (λ o. 1) (λ t k o. refl) refl ∙ sum-one (steps budget s log)
 
   -- those refused are the steps with a number
   -- promise
   pub run-refused :
-      run n s log budget .tally .refused
-      ≡ sumOf (λ o. cond (eqb (o .code) refusal.accepted) 0 1) (steps n budget s log)
+      run s log budget .tally .refused
+      ≡ sumOf (λ o. cond (eqb (o .code) refusal.accepted) 0 1) (steps budget s log)
   unfolding the-steps counted
   run-refused = summed (λ t. t .refused) (λ o. cond (eqb (o .code) refusal.accepted) 0 1) (λ t k o. refl) refl
 
   -- "each total is the sum over those steps' actions"
   -- promise
   pub run-request :
-      run n s log budget .tally .totals .request
-      ≡ sumOf (λ o. totalOf request (o .actions)) (steps n budget s log)
+      run s log budget .tally .totals .request
+      ≡ sumOf (λ o. totalOf request (o .actions)) (steps budget s log)
   unfolding the-steps counted totalled
   run-request = summed (λ t. t .totals .request) (λ o. totalOf request (o .actions)) (λ t k o. refl) refl
 
   -- promise
   pub run-release :
-      run n s log budget .tally .totals .release
-      ≡ sumOf (λ o. totalOf release (o .actions)) (steps n budget s log)
+      run s log budget .tally .totals .release
+      ≡ sumOf (λ o. totalOf release (o .actions)) (steps budget s log)
   unfolding the-steps counted totalled
   run-release = summed (λ t. t .totals .release) (λ o. totalOf release (o .actions)) (λ t k o. refl) refl
 
   -- promise
   pub run-incompatible :
-      run n s log budget .tally .totals .incompatible
-      ≡ sumOf (λ o. totalOf incompatible (o .actions)) (steps n budget s log)
+      run s log budget .tally .totals .incompatible
+      ≡ sumOf (λ o. totalOf incompatible (o .actions)) (steps budget s log)
   unfolding the-steps counted totalled
   run-incompatible = summed (λ t. t .totals .incompatible) (λ o. totalOf incompatible (o .actions)) (λ t k o. refl) refl
 
   -- promise
   pub run-initiate :
-      run n s log budget .tally .totals .initiate
-      ≡ sumOf (λ o. totalOf initiate (o .actions)) (steps n budget s log)
+      run s log budget .tally .totals .initiate
+      ≡ sumOf (λ o. totalOf initiate (o .actions)) (steps budget s log)
   unfolding the-steps counted totalled
   run-initiate = summed (λ t. t .totals .initiate) (λ o. totalOf initiate (o .actions)) (λ t k o. refl) refl
 
   -- promise
   pub run-terminate :
-      run n s log budget .tally .totals .terminate
-      ≡ sumOf (λ o. totalOf terminate (o .actions)) (steps n budget s log)
+      run s log budget .tally .totals .terminate
+      ≡ sumOf (λ o. totalOf terminate (o .actions)) (steps budget s log)
   unfolding the-steps counted totalled
   run-terminate = summed (λ t. t .totals .terminate) (λ o. totalOf terminate (o .actions)) (λ t k o. refl) refl
 
   -- promise
   pub run-established :
-      run n s log budget .tally .totals .established
-      ≡ sumOf (λ o. totalOf established (o .actions)) (steps n budget s log)
+      run s log budget .tally .totals .established
+      ≡ sumOf (λ o. totalOf established (o .actions)) (steps budget s log)
   unfolding the-steps counted totalled
   run-established = summed (λ t. t .totals .established) (λ o. totalOf established (o .actions)) (λ t k o. refl) refl

@@ -44,38 +44,38 @@ whole-fits rest k r = by (leb (length rest) longestLog)
     by false e = absurd (let z : _≡_ {A = ℕ} 0 1 = cc in omega arith)
 
 -- a run with nothing left stops there, whatever its budget
-go-nil : (n : ℕ) (t : Tally) (budget : ℕ) → ended t nothingLeft ≡ go n budget t []
+go-nil : (t : Tally) (budget : ℕ) → ended t nothingLeft ≡ go budget t []
 unfolding course tallied taken takeOne
-go-nil n t zero = refl
-go-nil n t (suc budget) = refl
+go-nil t zero = refl
+go-nil t (suc budget) = refl
 
 -- the rest of a run, by what stands at the front
-module _ (n : ℕ) (t : Tally) where
-  pub go-end : (budget : ℕ) (rest : List ℕ) → rest ≡ [] → ended t nothingLeft ≡ go n budget t rest
-  go-end budget rest none = go-nil n t budget ∙ ap (λ l. go n budget t l) (sym none)
+module _ (t : Tally) where
+  pub go-end : (budget : ℕ) (rest : List ℕ) → rest ≡ [] → ended t nothingLeft ≡ go budget t rest
+  go-end budget rest none = go-nil t budget ∙ ap (λ l. go budget t l) (sym none)
 
-  pub go-budget : (rest : List ℕ) → 0 < length rest → ended t budgetUsed ≡ go n 0 t rest
+  pub go-budget : (rest : List ℕ) → 0 < length rest → ended t budgetUsed ≡ go 0 t rest
   unfolding course tallied
   go-budget [] some = absurd (omega arith)
   go-budget (x ∷ rest) some = refl
 
-  pub go-stop : (budget : ℕ) → (budget ≡ 0 → ⊥) → (rest : List ℕ) (stop : ℕ) → taken rest ≡ Stopped stop → ended t stop ≡ go n budget t rest
+  pub go-stop : (budget : ℕ) → (budget ≡ 0 → ⊥) → (rest : List ℕ) (stop : ℕ) → taken rest ≡ Stopped stop → ended t stop ≡ go budget t rest
   unfolding course tallied
   go-stop zero some rest stop e = absurd (some refl)
   go-stop (suc budget) some rest stop e = rw e refl
 
-  pub go-refused : (budget : ℕ) → (budget ≡ 0 → ⊥) → (rest : List ℕ) (r : ℕ) → taken rest ≡ Refused r → ended t r ≡ go n budget t rest
+  pub go-refused : (budget : ℕ) → (budget ≡ 0 → ⊥) → (rest : List ℕ) (r : ℕ) → taken rest ≡ Refused r → ended t r ≡ go budget t rest
   unfolding course tallied
   go-refused zero some rest r e = absurd (some refl)
   go-refused (suc budget) some rest r e = rw e refl
 
   pub go-step : (budget : ℕ) → (budget ≡ 0 → ⊥) → (rest : List ℕ) (k : ℕ) (r : Reading)
       → taken rest ≡ Whole k r
-      → go n budget t rest ≡ go n (budget - 1) (counted t k (onRecord n (t .state) (take k rest) actionRoom)) (drop k rest)
+      → go budget t rest ≡ go (budget - 1) (counted t k (onRecord (t .state) (take k rest) actionRoom)) (drop k rest)
   unfolding course tallied counted
   go-step zero some rest k r e = absurd (some refl)
   go-step (suc budget) some rest k r e =
       let long : length (take k rest) ≡ k = length-take-le k rest (whole-fits rest k r e) in
       let same : budget ≡ suc budget - 1 = omega arith in
-      let o = onRecord n (t .state) (take k rest) actionRoom in
-      rw e (ap₂ (λ m b. tallied (counted t m o) (course n b (o .state) (drop k rest))) long same)
+      let o = onRecord (t .state) (take k rest) actionRoom in
+      rw e (ap₂ (λ m b. tallied (counted t m o) (course b (o .state) (drop k rest))) long same)

@@ -1,15 +1,20 @@
 -- The X of the version is compared with the limits.
 use borrow.Author.Needs.{needs}
+use mathlib.Core.Path.{refl}
 use mathlib.Core.Bool.{true, false}
 use Rattle.place.proofs.Cells.{judged-by}
 use Rattle.place.proofs.turn.judge.Statement.{statement}
 use Rattle.place.proofs.turn.judge.Tie as tie
 
 returns : tie.Need-returns
-returns c = judged-by (c .before .before .before .before .before .args .limits) _ _ _ true (c .before .before .before .before .word .ensures) (c .before .and .ensures) (c .if1 .taken)
+returns c =
+    let start = c .before .before .before .before in
+    judged-by (start .args .limits) (start .args .version) _ _ true refl (c .before .and .ensures) (c .if1 .taken)
 
 returns-2 : tie.Need-returns-2
-returns-2 c = judged-by (c .before .before .before .before .before .args .limits) _ _ _ false (c .before .before .before .before .word .ensures) (c .before .and .ensures) (c .if1 .left)
+returns-2 c =
+    let start = c .before .before .before .before in
+    judged-by (start .args .limits) (start .args .version) _ _ false refl (c .before .and .ensures) (c .if1 .left)
 
 pub judge-spec : {M : Type 1} → statement M
-judge-spec = tie.close (tie.spec (λ c κs. search needs) (λ c κs. search needs) returns returns-2)
+judge-spec = tie.close (tie.spec (λ c κs. search needs) returns returns-2)

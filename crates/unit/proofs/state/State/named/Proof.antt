@@ -3,7 +3,6 @@ use borrow.Author.Needs.{needs}
 use mathlib.Core.Path.{sym, _∙_}
 use native.Mathlib.Omega.{arith}
 use lib.ListN.{length-map}
-use Rattle.place.specs.Places.{tryLimit}
 use Rattle.unit.proofs.Searches.{found-ok}
 use Rattle.unit.proofs.Rules.{named-is}
 use Rattle.unit.proofs.state.State.named.Statement.{statement}
@@ -24,7 +23,7 @@ returns c =
     let sought = c .before .before .before .before in
     let told = c .before .before in
     c .turn .ensures
-    ∙ sym (named-is tryLimit (start .args .self) (start .args .partner) (start .args .event) _ (sym (sought .seek .ensures) ∙ told .place .given .1))
+    ∙ sym (named-is (start .args .self) (start .args .partner) (start .args .event) _ (sym (sought .seek .ensures) ∙ told .place .given .1))
 
 returns-2 : tie.Need-returns-2
 returns-2 c =
@@ -32,7 +31,7 @@ returns-2 c =
     let sought = c .before .before .before in
     let told = c .before in
     c .refuse .ensures
-    ∙ sym (named-is tryLimit (start .args .self) (start .args .partner) (start .args .event) _ (sym (sought .seek .ensures) ∙ told .enum-told .given .1))
+    ∙ sym (named-is (start .args .self) (start .args .partner) (start .args .event) _ (sym (sought .seek .ensures) ∙ told .enum-told .given .1))
 
 returns-3 : tie.Need-returns-3
 returns-3 c =
@@ -40,7 +39,7 @@ returns-3 c =
     let sought = c .before .before .before in
     let told = c .before in
     c .refuse2 .ensures
-    ∙ sym (named-is tryLimit (start .args .self) (start .args .partner) (start .args .event) _ (sym (sought .seek .ensures) ∙ told .enum-told2 .given .1))
+    ∙ sym (named-is (start .args .self) (start .args .partner) (start .args .event) _ (sym (sought .seek .ensures) ∙ told .enum-told2 .given .1))
 
 pub named-spec : {M : Type 1} → statement M
 named-spec = tie.close (tie.spec (λ c κs. search needs) (λ c. search needs) turn-requires (λ c. search needs) (λ c κs. search needs) (λ c. search needs) (λ c κs. search needs) returns returns-2 returns-3)

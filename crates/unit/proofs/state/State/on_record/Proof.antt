@@ -2,7 +2,6 @@
 use borrow.Author.Needs.{needs}
 use denote.Ref.{now}
 use lib.ListN.{length}
-use Rattle.place.specs.Places.{tryLimit}
 use Rattle.unit.specs.OnRecords.{onRecord}
 use Rattle.unit.proofs.Few.{onRecord-few}
 use Rattle.unit.proofs.OnBytes.{on-fits, answered-count, answered-few, answered-pair}
@@ -15,10 +14,10 @@ put-all-requires c κs =
     let self = start .args .self in
     let bytes = now (start .args .bytes) in
     let room = length (now (start .args .actions)) in
-    let o = onRecord tryLimit self bytes room in
+    let o = onRecord self bytes room in
     let answer = c .before .before .answer .ensures in
-    let few = onRecord-few tryLimit self bytes room in
-    (answered-few o _ answer few, rw (answered-count o _ answer) (on-fits tryLimit self bytes room few))
+    let few = onRecord-few self bytes room in
+    (answered-few o _ answer few, rw (answered-count o _ answer) (on-fits self bytes room few))
 
 returns : tie.Need-returns
 returns c =
@@ -28,8 +27,8 @@ returns c =
     let self = start .args .self in
     let bytes = now (start .args .bytes) in
     let buffer = now (start .args .actions) in
-    answered-pair (onRecord tryLimit self bytes (length buffer)) _ (answered .answer .ensures) buffer _
-    (onRecord-few tryLimit self bytes (length buffer))
+    answered-pair (onRecord self bytes (length buffer)) _ (answered .answer .ensures) buffer _
+    (onRecord-few self bytes (length buffer))
     (wrote .put-all .ensures)
 
 pub on-record-spec : {M : Type 1} → statement M

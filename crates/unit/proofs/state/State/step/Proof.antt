@@ -3,7 +3,6 @@ use borrow.Author.Needs.{needs}
 use mathlib.Core.Path.{sym, ap, _∙_}
 use native.Mathlib.Omega.{arith}
 use lib.ListN.{length-map}
-use Rattle.place.specs.Places.{tryLimit}
 use Rattle.unit.specs.Forms.{packed}
 use Rattle.unit.proofs.Settling.{carried-refused, carried-made, made-few}
 use Rattle.unit.proofs.state.State.step.Statement.{statement}
@@ -15,7 +14,7 @@ make-requires c κs =
     let changed = c .before .before in
     let four = sym (length-map (start .args .self .places) _) ∙ start .good .0 .1 .1 .1 .1 .1 .0 .1 .0 .1 in
     let made = sym (carried-made (start .args .self) _ (c .if1 .taken)) ∙ changed .change .ensures in
-    made-few (start .args .self) (changed .change .result) tryLimit four (start .args .event) made
+    made-few (start .args .self) (changed .change .result) four (start .args .event) made
 
 returns : tie.Need-returns
 returns c =
