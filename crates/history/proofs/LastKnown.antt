@@ -2,7 +2,7 @@
 -- never named.
 -- Proves: last-recent, last-none, never-held, never-known, never-named.
 use mathlib.Core.Path.{_≡_, refl, sym, ap, _∙_}
-use mathlib.Core.Bool.{Bool, true, false, cond}
+use mathlib.Core.Bool.{true, false, cond}
 use mathlib.Core.List.{List, [], _∷_, _++_}
 use Prim.Native.Nat.{ℕ, _+_, _<_}
 use native.Mathlib.Omega.{arith}
@@ -15,7 +15,7 @@ use Rattle.place.specs.declared.limits.Limits.{Limits}
 use Rattle.unit.specs.Lasts.{toRbc, recalledBy, recalled}
 use Rattle.unit.specs.States.{placeCount, limitsOk, sound, noLimits, cold, coldStart}
 use Rattle.unit.specs.OnRecords.{trace, actionRoom, onRecord}
-use Rattle.unit.specs.Kept.{once, count}
+use Rattle.unit.specs.Kept.{count}
 use Rattle.unit.specs.declared.last.Last.{Last}
 use Rattle.unit.specs.declared.last.Last.the-variants.{Unknown, Known}
 use Rattle.unit.specs.declared.start.Started.{Started}
@@ -23,7 +23,7 @@ use Rattle.unit.specs.declared.state.State.{State}
 use Rattle.unit.specs.declared.answer.Action.{Action}
 use Rattle.unit.proofs.Counts.{count-append}
 use Rattle.unit.proofs.Agreed.Meant.{sound-places, sound-last}
-use Rattle.unit.proofs.Recalled.{recalled-append, onRecord-last, onRecord-named}
+use Rattle.unit.proofs.Recalled.{recalled-append, recalled-none, onRecord-last, onRecord-named}
 use Rattle.unit.proofs.Sound.{onRecord-sound}
 use Rattle.unit.proofs.Starts.{cold-sound}
 use Rattle.history.specs.Histories.{endOf, after, sentBy, sent}
@@ -38,19 +38,6 @@ recalled-along s (bytes ∷ history) =
     recalled-along (o .state) history
     ∙ ap (λ last. recalled last (sent (o .state) history)) (onRecord-last s bytes actionRoom)
     ∙ sym (recalled-append (s .last) (o .actions) (sent (o .state) history))
-
--- actions with no 159 to an RBC leave it
-recalled-none : (last : Last) (acts : List Action) → count toRbc acts ≡ 0 → recalled last acts ≡ last
-unfolding recalled count
-recalled-none last [] none = refl
-recalled-none last (a ∷ acts) none = by (toRbc a) (omega arith) (recalled-none last acts (omega arith))
-  where
-    own : Last
-    own = Known (a .partner .high) (a .partner .middle) (a .partner .low)
-
-    by : (b : Bool) → once b ≡ 0 → recalled last acts ≡ last → recalled (cond b own last) acts ≡ last
-    by true none rest = absurd (omega arith)
-    by false none rest = rest
 
 -- the cold start knows none
 cold-unknown : (l : Limits) → coldStart l .state .last ≡ Unknown

@@ -14,3 +14,5 @@ pub mod Leads
 pub mod Sessions
 pub mod Reached
 pub mod LastKnown
+pub mod EitherOrder
+pub mod OrderMatters

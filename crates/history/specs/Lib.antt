@@ -1,2 +1,4 @@
 pub mod Histories
 pub mod Reaching
+pub mod EitherOrder
+pub mod OrderMatters

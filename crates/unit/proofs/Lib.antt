@@ -22,6 +22,7 @@ pub mod Effects
 pub mod Sent
 pub mod Quiet
 pub mod Recalled
+pub mod Apart
 pub mod Runs
 pub mod OneAnswer
 pub mod Agreed

@@ -1,5 +1,5 @@
 -- What a step remembers of its actions, and whom they name, for crates that stand on it without its definition.
--- Proves: recalled-append, step-last, onRecord-last, step-named, onRecord-named.
+-- Proves: recalled-append, recalled-none, step-last, onRecord-last, step-named, onRecord-named.
 use mathlib.Core.Path.{_≡_, refl, sym, ap, _∙_}
 use mathlib.Core.Bool.{Bool, true, false, cond, _&&_, not}
 use mathlib.Core.List.{List, [], _∷_, _++_, map}
@@ -23,7 +23,7 @@ use Rattle.place.specs.declared.limits.Limits.{Limits}
 use Rattle.place.specs.declared.turn.Closing.{Closing}
 use Rattle.place.specs.declared.turn.Closing.the-variants.{Every}
 use Rattle.place.specs.declared.turn.Turn.the-variants.{Stays}
-use Rattle.unit.specs.Lasts.{recalledBy, recalled}
+use Rattle.unit.specs.Lasts.{toRbc, recalledBy, recalled}
 use Rattle.unit.specs.States.{sound}
 use Rattle.unit.specs.Steps.{Outcome, act, actionsIn, closingActions, step}
 use Rattle.unit.specs.OnRecords.{onRecord}
@@ -31,6 +31,7 @@ use Rattle.unit.specs.Concerns.{actionFor, heldBy, placeOf}
 use Rattle.unit.specs.Kept.{here, once, count}
 use Rattle.unit.specs.Standings.{Concern}
 use Rattle.unit.specs.declared.last.Last.{Last}
+use Rattle.unit.specs.declared.last.Last.the-variants.{Known}
 use Rattle.unit.specs.declared.state.State.{State}
 use Rattle.unit.specs.declared.answer.Action.{Action}
 use Rattle.unit.proofs.Counts.{count-append, count-one}
@@ -44,6 +45,19 @@ pub recalled-append : (last : Last) (xs ys : List Action) → recalled last (xs 
 unfolding recalled
 recalled-append last [] ys = refl
 recalled-append last (a ∷ xs) ys = recalled-append (recalledBy last a) xs ys
+
+-- actions with no 159 to an RBC leave what is known
+pub recalled-none : (last : Last) (acts : List Action) → count toRbc acts ≡ 0 → recalled last acts ≡ last
+unfolding recalled count
+recalled-none last [] none = refl
+recalled-none last (a ∷ acts) none = by (toRbc a) (omega arith) (recalled-none last acts (omega arith))
+  where
+    own : Last
+    own = Known (a .partner .high) (a .partner .middle) (a .partner .low)
+
+    by : (b : Bool) → once b ≡ 0 → recalled last acts ≡ last → recalled (cond b own last) acts ≡ last
+    by true none rest = absurd (omega arith)
+    by false none rest = rest
 
 -- a closing sends no 159
 closing-recalled : (which : Closing) (k : Holding) (last : Last) → recalled last (actionsIn k (holdingClosedBy which k)) ≡ last

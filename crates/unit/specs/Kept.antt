@@ -1,7 +1,9 @@
 -- What the promises on a step speak of.
--- Defines: Kept, count, weigh, once, here, isClosedBy, WasFree.
+-- Defines: Kept, count, weigh, once, here, isClosedBy, WasFree, isVersion.
 use Rattle.wire.specs.Refusals as refusal
 use Rattle.record.specs.declared.partner.Partner.{Partner}
+use Rattle.record.specs.declared.event.PartnerEvent.{PartnerEvent}
+use Rattle.record.specs.declared.event.PartnerEvent.the-variants.{Drop, Up, Loss, Timeout, Version, Ended}
 use Rattle.place.specs.Places.{vacant, isFree, holds, onHolding}
 use Rattle.place.specs.Table.{closes}
 use Rattle.place.specs.declared.place.Place.{Place}
@@ -47,3 +49,12 @@ WasFree s p o =
     → (i : ℕ)
     → holds p (getD (o .state .places) i vacant) ≡ true
     → isFree (getD (s .places) i vacant) ≡ true
+
+-- message 32
+abbrev pub isVersion : PartnerEvent → Bool
+isVersion Drop = false
+isVersion Up = false
+isVersion Loss = false
+isVersion Timeout = false
+isVersion (Version v) = true
+isVersion Ended = false
