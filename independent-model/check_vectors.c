@@ -8,7 +8,7 @@
 #include <stdlib.h>
 #include <string.h>
 
-enum { GROUPS = 12, OPS = 11, BODY_MOST = 8000, STATE_BYTES = IMAGE_BYTES - 1, GUARD = 64 };
+enum { GROUPS = 13, OPS = 12, BODY_MOST = 8000, STATE_BYTES = IMAGE_BYTES - 1, GUARD = 64 };
 
 static const uint8_t *at, *stop;       /* what is left of the body */
 static size_t number;                  /* of the vector, from 1 */
@@ -219,6 +219,29 @@ static void load_vector(uint8_t (*read)(State *, const uint8_t *, size_t))
 static void load_any_vector(void) { load_vector(image_read); }
 static void load_new_vector(void) { load_vector(image_read_new); }
 
+static void rescue_vector(void)
+{
+    enum { UNTOUCHED = 0xEE };
+    uint8_t listed[GUARD], found = UNTOUCHED;
+    const size_t length = u8();
+    const uint8_t *const given = take(length);
+    uint8_t *const image = lend(length, 0);
+    if (length > 0)
+        memcpy(image, given, length);
+    memset(listed, UNTOUCHED, sizeof listed);
+    const uint8_t code = image_rescue(image, length, listed, &found);
+    differ("code", code, u8());
+    const unsigned fields = u8();
+    if (fields > RESCUE_MOST)
+        malformed("more than eleven fields");
+    differ("count", found, fields);
+    differ_bytes("listed field", listed, take(fields), fields);
+    for (size_t i = fields; i < sizeof listed; i++)
+        differ("byte behind the list", listed[i], UNTOUCHED);
+    differ_bytes("image", image, take(length), length);
+    guard(length, 0);
+}
+
 static void run_expected(const State *before, const uint8_t *log, size_t length, uint32_t budget)
 {
     const uint8_t *const here = at;
@@ -330,9 +353,9 @@ int main(int argc, char **argv)
     static void (*const operation[OPS + 1])(void) = {
         NULL, cold_start_vector, step_vector, store_a2_vector, load_any_vector,
         run_vector, long_run_vector, history_vector, mix_vector, cold_default_vector,
-        store_a1_vector, load_new_vector,
+        store_a1_vector, load_new_vector, rescue_vector,
     };
-    static uint8_t file[8u << 20];
+    static uint8_t file[12u << 20];
     size_t vectors[GROUPS + 1] = {0}, failed[GROUPS + 1] = {0}, all_failed = 0;
 
     if (argc != 2 && argc != 3) {

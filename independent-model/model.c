@@ -518,6 +518,83 @@ static inline uint8_t read_as(State *s, const uint8_t *image, size_t length, con
 uint8_t image_read(State *s, const uint8_t *image, size_t length) { return read_as(s, image, length, true); }
 uint8_t image_read_new(State *s, const uint8_t *image, size_t length) { return read_as(s, image, length, false); }
 
+/* ---- the rescue of an A2 image (request Q-13) ---- */
+
+enum {                                     /* where the fields stand in an A2 image */
+    LOWEST_AT = 1, HIGHEST_AT = 2, LEVEL_AT = 3, INSIDE_AT = 5, HOLE_END_AT = 8, PLACES_AT = 9,
+    PLACE_BYTES = 7, N_AT = 37, LAST_AT = 38
+};
+
+/* The greatest value of the level, the mission and each mark. */
+static const uint8_t greatest[PLACES_AT - LEVEL_AT] = {4, 2, 1, 1, 1, 1};
+
+/* The seven bytes of a place by themselves, with tries from 1 to n: free, or what may be held. */
+static inline bool place_good(const uint8_t *p, uint8_t n)
+{
+    const uint8_t phase = p[0], direction = p[1], tries = p[2], type = p[3];
+    if (phase == FREE)
+        return (direction | tries | type | p[4] | p[5] | p[6]) == 0;
+    if (phase > ENDING || direction > INCOMING || type > RIU)
+        return false;
+    if (phase == OPEN ? tries > 0 : tries == 0 || tries > n)
+        return false;
+    if (direction == INCOMING && (type == RIU || phase < OPEN))
+        return false;
+    return type == RIU || (p[5] & 0x3F) != 0x3F || p[6] != 0xFF;
+}
+
+/* A held place below p, as far down as the first, that has p's partner; those that were not kept
+ * are free by now. */
+static inline bool repeats(const uint8_t *first, const uint8_t *p)
+{
+    if (p[0] != FREE)
+        for (const uint8_t *q = first; q < p; q += PLACE_BYTES)
+            if (q[0] != FREE && memcmp(q + 3, p + 3, 4) == 0)
+                return true;
+    return false;
+}
+
+/* The four bytes of the last known RBC: none, or 1 and the number of an RBC. */
+static inline bool last_good(const uint8_t *b)
+{
+    if (b[0] == 0)
+        return (b[1] | b[2] | b[3]) == 0;
+    return b[0] == 1 && ((b[2] & 0x3F) != 0x3F || b[3] != 0xFF);
+}
+
+uint8_t image_rescue(uint8_t *image, size_t length, uint8_t fields[RESCUE_MOST], uint8_t *count)
+{
+    *count = 0;
+    if (length == 0)
+        return 1;
+    if (image[0] != IMAGE_KIND)
+        return 2;
+    if (length != IMAGE_BYTES)
+        return 1;
+    if (image[HIGHEST_AT] > 7 || image[LOWEST_AT] > image[HIGHEST_AT] ||
+        image[N_AT] < TRIES_LEAST || image[N_AT] > TRIES_MOST)
+        return 11;
+
+    uint8_t *to = fields;
+    for (uint8_t at = LEVEL_AT; at < PLACES_AT; at++)
+        if (image[at] > greatest[at - LEVEL_AT] ||
+            (at == HOLE_END_AT && image[at] == 1 && image[INSIDE_AT] == 1)) {      /* inside is mended */
+            image[at] = 0;
+            *to++ = at;
+        }
+    for (uint8_t at = PLACES_AT; at < N_AT; at += PLACE_BYTES)
+        if (!place_good(image + at, image[N_AT]) || repeats(image + PLACES_AT, image + at)) {
+            memset(image + at, 0, PLACE_BYTES);
+            *to++ = at;
+        }
+    if (!last_good(image + LAST_AT)) {
+        memset(image + LAST_AT, 0, IMAGE_BYTES - LAST_AT);
+        *to++ = LAST_AT;
+    }
+    *count = (uint8_t)(to - fields);
+    return 0;
+}
+
 /* ---- the run ---- */
 
 static inline void run(State *s, const uint8_t *log, size_t length, size_t budget, RunResult *out,

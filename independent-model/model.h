@@ -1,5 +1,5 @@
 /* Independent model of document 01 (on-board side of session management) with the requests Q-2,
- * Q-3, Q-4 and Q-6 of document 02. Plain C11, state changed in place, no allocation. */
+ * Q-3, Q-4, Q-6 and Q-13 of document 02. Plain C11, state changed in place, no allocation. */
 #ifndef MODEL_H
 #define MODEL_H
 
@@ -20,7 +20,8 @@ enum {
     TRIES_DEFAULT = 5,       /* where no number is given */
     TRIES_OLD = 3,           /* what an A1 image means, and what a refused cold start or read holds */
     LOG_MOST = 1048576,      /* longest log a run takes */
-    KIND_LAST = 11
+    KIND_LAST = 11,
+    RESCUE_MOST = 11         /* fields of an A2 image that a rescue may change */
 };
 
 enum { FREE = 0, CONNECTING = 1, CONTACTING = 2, OPEN = 3, LOST = 4, ENDING = 5 };
@@ -93,6 +94,11 @@ void image_load(State *s, const uint8_t image[IMAGE_BYTES]);
 void image_store(const State *s, uint8_t image[IMAGE_BYTES]);
 void image_load_old(State *s, const uint8_t image[OLD_IMAGE_BYTES]);
 void image_store_old(const State *s, uint8_t image[OLD_IMAGE_BYTES]);
+
+/* Mends a lent A2 image (request Q-13); gives 0, or the refusal, which changes no byte and lists
+ * nothing. Lists each changed field by its first offset, ascending; the bytes of the list behind
+ * the count stay. */
+uint8_t image_rescue(uint8_t *image, size_t length, uint8_t fields[RESCUE_MOST], uint8_t *count);
 
 /* Soundness tested at each record / once at the start. */
 void run_checked(State *s, const uint8_t *log, size_t length, size_t budget, RunResult *out);

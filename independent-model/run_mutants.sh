@@ -1,7 +1,9 @@
 #!/bin/sh
-# Builds check_vectors with each mutant of model.c and runs it over FILE (vectors.bin).
-# mutants.txt: number, failed vectors of groups 1 to 12, all, name. 'crash' counts as caught.
+# run_mutants.sh [FILE [FROM]]: builds check_vectors with each mutant of model.c, those before number FROM left out, and runs it over
+# FILE (vectors.bin).
+# mutants.txt: number, failed vectors of groups 1 to 13, all, name. 'crash' counts as caught.
 file=${1:-vectors.bin}
+from=${2:-1}
 gcc -O2 -std=c11 -Wall -Wextra -o mutate mutate.c || exit 1
 gcc -O3 -std=c11 -Wall -Wextra -c check_vectors.c || exit 1
 n=$(./mutate count)
@@ -19,15 +21,15 @@ one() {
     rm -f $dir/$1 $dir/$1.c $dir/$1.out
 }
 half() { i=$1; while [ $i -le $n ]; do one $i; i=$((i + 2)); done; }
-half 1 > $dir/odd & odd=$!
-half 2 > $dir/even
+half $from > $dir/odd & odd=$!
+half $((from + 1)) > $dir/even
 wait $odd
 sort -n $dir/odd $dir/even > mutants.txt
 rm -r $dir
 awk '$2 == "crash" || $2 == "-" { other++; print; next }
-     { made++; for (g = 1; g <= 12; g++) if ($(g + 1) > 0) by[g]++
-       if ($14 > 0) { caught++; few = 0; for (g = 1; g <= 12; g++) few += g != 9 && $(g + 1) > 0; if (!few) only9++ }
+     { made++; for (g = 1; g <= 13; g++) if ($(g + 1) > 0) by[g]++
+       if ($15 > 0) { caught++; few = 0; for (g = 1; g <= 13; g++) few += g != 9 && $(g + 1) > 0; if (!few) only9++ }
        else print "survived: " $0 }
      END { printf "mutants run %d, caught %d, other %d\n", made, caught, other
-           printf "caught by group:"; for (g = 1; g <= 12; g++) printf " %d: %d", g, by[g]; print ""
+           printf "caught by group:"; for (g = 1; g <= 13; g++) printf " %d: %d", g, by[g]; print ""
            printf "caught by the histories of group 9 only: %d\n", only9 }' mutants.txt

@@ -1,4 +1,4 @@
-/* Test of the model against document 01 and the requests Q-2, Q-3, Q-4 and Q-6. Expectations are written out here by hand or by a
+/* Test of the model against document 01 and the requests Q-2, Q-3, Q-4, Q-6 and Q-13. Expectations are written out here by hand or by a
  * second, slow and literal reading; nothing of model.c's insides is used. */
 #include "gen.h"
 #include "model.h"
@@ -1511,6 +1511,276 @@ static void last_known(void)
     }
 }
 
+/* ---- the rescue ---- */
+
+/* A slow, literal rescue: each sentence of request Q-13 in its turn, the list at the end from what differs. */
+static int slow_rescue(uint8_t *b, size_t n, uint8_t *list, int *listed)
+{
+    static const int first[11] = {3, 4, 5, 6, 7, 8, 9, 16, 23, 30, 38}, bytes[11] = {1, 1, 1, 1, 1, 1, 7, 7, 7, 7, 4};
+    uint8_t given[42];
+    *listed = 0;
+    if (n == 0) return 1;
+    if (b[0] != 0xA2) return 2;
+    if (n != 42) return 1;
+    if (b[1] > 7 || b[2] > 7 || b[1] > b[2]) return 11;
+    if (b[37] < 1 || b[37] > 9) return 11;
+    memcpy(given, b, 42);
+    /* level, mission or a mark out of range becomes 0 */
+    if (b[3] != 0 && b[3] != 1 && b[3] != 2 && b[3] != 3 && b[3] != 4) b[3] = 0;
+    if (b[4] != 0 && b[4] != 1 && b[4] != 2) b[4] = 0;
+    for (int i = 5; i <= 8; i++)
+        if (b[i] != 0 && b[i] != 1) b[i] = 0;
+    /* inside and hole end both 1 clears hole end */
+    if (b[5] == 1 && b[8] == 1) b[8] = 0;
+    /* a bad last RBC becomes none */
+    bool none = b[38] == 0 && b[39] == 0 && b[40] == 0 && b[41] == 0;
+    if (!none && (b[38] != 1 || slow_last(b + 39))) memset(b + 38, 0, 4);
+    /* going upwards, a place that is not sound by itself: alone in a cold state with this n */
+    bool kept[4] = {false, false, false, false};
+    for (int i = 0; i < 4; i++) {
+        uint8_t *const p = b + 9 + 7 * i;
+        uint8_t alone[42] = {0xA2};
+        alone[37] = b[37];
+        memcpy(alone + 9, p, 7);
+        bool drop = !slow_sound(alone);
+        /* or repeats the partner of a lower kept place */
+        for (int j = 0; j < i; j++) {
+            const uint8_t *const q = given + 9 + 7 * j;
+            if (kept[j] && p[0] != 0 && p[3] == q[3] && p[4] == q[4] && p[5] == q[5] && p[6] == q[6]) drop = true;
+        }
+        kept[i] = !drop && p[0] != 0;
+        if (drop) memset(p, 0, 7);
+    }
+    for (int f = 0; f < 11; f++)
+        if (memcmp(b + first[f], given + first[f], (size_t)bytes[f]) != 0) list[(*listed)++] = (uint8_t)first[f];
+    return 0;
+}
+
+static unsigned long field_hit[11], count_hit[12], rescue_hit[12];
+
+/* A rescue against the slow one, and what the request says of it. Gives the code. */
+static int check_rescue(const uint8_t *image, size_t n)
+{
+    uint8_t got[80], want[80], list[20], slow_list[11], count = 99;
+    int slow_count;
+    State s;
+    memset(got, 0xEE, sizeof got);
+    memcpy(got, image, n);
+    memcpy(want, got, sizeof want);
+    memset(list, 0xEE, sizeof list);
+    const int code = image_rescue(got, n, list, &count);
+    CHECK(code == slow_rescue(want, n, slow_list, &slow_count));
+    CHECK(memcmp(got, want, sizeof got) == 0);         /* the bytes behind the image too */
+    CHECK(count == slow_count && count <= 11 && memcmp(list, slow_list, count < 11 ? count : 11) == 0);
+    for (size_t i = count; i < sizeof list; i++) CHECK(list[i] == 0xEE);
+    for (int i = 1; i < count; i++) CHECK(list[i - 1] < list[i]);
+    rescue_hit[code]++;
+    if (code != 0) {                                   /* refused: no byte is changed and nothing is listed */
+        CHECK(count == 0 && memcmp(got, image, n) == 0);
+        return code;
+    }
+    /* a byte that changed is 0 now and stands in a listed field; a listed field has a byte that changed */
+    for (int i = 0; i < 42; i++)
+        if (got[i] != image[i]) {
+            bool in = false;
+            for (int k = 0; k < count; k++)
+                in |= i >= list[k] && i < list[k] + (list[k] < 9 ? 1 : list[k] < 37 ? 7 : 4);
+            CHECK(in && got[i] == 0);
+        }
+    for (int k = 0; k < count; k++)
+        CHECK(memcmp(got + list[k], image + list[k], list[k] < 9 ? 1 : list[k] < 37 ? 7 : 4) != 0);
+    for (int k = 0; k < count; k++) field_hit[list[k] < 9 ? list[k] - 3 : list[k] < 37 ? 6 + (list[k] - 9) / 7 : 10]++;
+    count_hit[count]++;
+    /* the result reads; a sound image is unchanged; a second rescue changes nothing */
+    CHECK(image_read_new(&s, got, 42) == 0 && sound(&s) && slow_sound(got));
+    CHECK((count == 0) == slow_sound(image));
+    memcpy(want, got, sizeof want);
+    CHECK(image_rescue(got, 42, list, &count) == 0 && count == 0 && memcmp(got, want, sizeof got) == 0);
+    return 0;
+}
+
+/* The list and the image by hand: the bytes of 'want' at the listed fields, all others as given. */
+static bool rescues(const uint8_t *image, int count, ...)
+{
+    uint8_t b[42], list[11], found;
+    memcpy(b, image, 42);
+    const int code = image_rescue(b, 42, list, &found);
+    bool ok = code == 0 && check_rescue(image, 42) == 0 && found == count;
+    uint8_t want[42];
+    memcpy(want, image, 42);
+    va_list fields;
+    va_start(fields, count);
+    for (int i = 0; i < count; i++) {
+        const int at = va_arg(fields, int);
+        ok = ok && i < found && list[i] == at;
+        memset(want + at, 0, at < 9 ? 1 : at < 37 ? 7 : 4);
+    }
+    va_end(fields);
+    return ok && memcmp(b, want, 42) == 0;
+}
+
+static void rescue(void)
+{
+    /* X 1 to 2, level 3, mission 2, mode and hole end set; n 5; RBC 010203 Open, incoming; RIU 010203 Contacting, 5;
+     * free; RBC 0 Lost, incoming, 4; RBC 000007 known */
+    static const uint8_t good[42] = {
+        0xA2, 1, 2, 3, 2, 0, 1, 0, 1,
+        3, 1, 0, 0, 1, 2, 3, 2, 0, 5, 1, 1, 2, 3, 0, 0, 0, 0, 0, 0, 0, 4, 1, 4, 0, 0, 0, 0,
+        5, 1, 0, 0, 7};
+    uint8_t b[80], list[11], count;
+    CHECK(rescues(good, 0));
+#define SPOILT(...) (memcpy(b, good, 42), __VA_ARGS__, b)
+
+    /* refusals: 1 empty, 2, 1, 11, in this order */
+    memset(b, 0, sizeof b);
+    count = 9;
+    CHECK(image_rescue(b, 0, list, &count) == 1 && count == 0);
+    count = 9;
+    CHECK(image_rescue(NULL, 0, NULL, &count) == 1 && count == 0);
+    for (int kind = 0; kind < 256; kind++)
+        for (size_t n = 0; n < 70; n++) {
+            SPOILT(b[0] = (uint8_t)kind, b[3] = 9);
+            CHECK(check_rescue(b, n) == (n == 0 ? 1 : kind != 0xA2 ? 2 : n != 42 ? 1 : 0));
+            b[1] = 3;
+            CHECK(check_rescue(b, n) == (n == 0 ? 1 : kind != 0xA2 ? 2 : n != 42 ? 1 : 11));
+            SPOILT(b[0] = (uint8_t)kind, b[37] = 10);
+            CHECK(check_rescue(b, n) == (n == 0 ? 1 : kind != 0xA2 ? 2 : n != 42 ? 1 : 11));
+        }
+    for (int x = 0; x < 256; x++) {
+        for (int y = 0; y < 256; y++) {
+            SPOILT(b[1] = (uint8_t)x, b[2] = (uint8_t)y, b[4] = 77);
+            CHECK(check_rescue(b, 42) == (x <= y && y <= 7 ? 0 : 11));
+        }
+        SPOILT(b[37] = (uint8_t)x, b[4] = 77);
+        CHECK(check_rescue(b, 42) == (x >= 1 && x <= 9 ? 0 : 11));
+    }
+
+    /* level, mission, a mark out of range */
+    for (int v = 0; v < 256; v++) {
+        CHECK(v <= 4 ? rescues(SPOILT(b[3] = (uint8_t)v), 0) : rescues(SPOILT(b[3] = (uint8_t)v), 1, 3));
+        CHECK(v <= 2 ? rescues(SPOILT(b[4] = (uint8_t)v), 0) : rescues(SPOILT(b[4] = (uint8_t)v), 1, 4));
+        CHECK(v <= 1 ? rescues(SPOILT(b[6] = (uint8_t)v), 0) : rescues(SPOILT(b[6] = (uint8_t)v), 1, 6));
+        CHECK(v <= 1 ? rescues(SPOILT(b[7] = (uint8_t)v), 0) : rescues(SPOILT(b[7] = (uint8_t)v), 1, 7));
+        CHECK(v <= 1 ? rescues(SPOILT(b[8] = (uint8_t)v), 0) : rescues(SPOILT(b[8] = (uint8_t)v), 1, 8));
+        /* inside: hole end is 1, and is cleared if inside is 1, not if inside is bad and 0 by then */
+        CHECK(v == 0 ? rescues(SPOILT(b[5] = 0), 0) :
+              v == 1 ? rescues(SPOILT(b[5] = 1), 1, 8) : rescues(SPOILT(b[5] = (uint8_t)v), 1, 5));
+        /* a bad hole end with inside 1 is listed once */
+        CHECK(v == 0 ? rescues(SPOILT(b[5] = 1, b[8] = 0), 0) : rescues(SPOILT(b[5] = 1, b[8] = (uint8_t)v), 1, 8));
+        CHECK(v < 2 || rescues(SPOILT(b[5] = (uint8_t)v, b[8] = (uint8_t)v), 2, 5, 8));
+        /* the last known RBC: the flag, its number */
+        CHECK(v == 1 ? rescues(SPOILT(b[38] = 1), 0) : rescues(SPOILT(b[38] = (uint8_t)v), 1, 38));
+        CHECK(v == 0 ? rescues(SPOILT(b[38] = 0, b[41] = 0), 0) : rescues(SPOILT(b[38] = 0, b[41] = (uint8_t)v), 1, 38));
+        CHECK(v % 64 != 63 ? rescues(SPOILT(b[40] = (uint8_t)v, b[41] = 255), 0) :
+              rescues(SPOILT(b[40] = (uint8_t)v, b[41] = 255), 1, 38));
+        CHECK(rescues(SPOILT(b[39] = (uint8_t)v, b[40] = 63, b[41] = 255), 1, 38));
+        CHECK(rescues(SPOILT(b[39] = (uint8_t)v), 0));
+        CHECK(v == 0 || rescues(SPOILT(memset(b + 38, 0, 4), b[39] = (uint8_t)v), 1, 38));
+        CHECK(v == 0 || rescues(SPOILT(memset(b + 38, 0, 4), b[40] = (uint8_t)v), 1, 38));
+    }
+    CHECK(rescues(SPOILT(memset(b + 38, 0, 4)), 0));
+
+    /* a place by itself */
+    CHECK(rescues(SPOILT(b[18] = 6), 1, 16));              /* tries over the image's n, not over 3 */
+    CHECK(rescues(SPOILT(b[18] = 0), 1, 16));
+    CHECK(rescues(SPOILT(b[18] = 4), 0));
+    CHECK(rescues(SPOILT(b[37] = 9, b[18] = 9), 0));
+    CHECK(rescues(SPOILT(b[37] = 4), 1, 16));              /* n is taken as it stands: 5 tries are too many */
+    CHECK(rescues(SPOILT(b[37] = 3), 2, 16, 30));
+    CHECK(rescues(SPOILT(b[11] = 1), 1, 9));               /* tries in Open */
+    CHECK(rescues(SPOILT(b[9] = 6), 1, 9));
+    CHECK(rescues(SPOILT(b[10] = 0), 0));
+    CHECK(rescues(SPOILT(b[10] = 2), 1, 9));
+    CHECK(rescues(SPOILT(b[12] = 2), 1, 9));
+    CHECK(rescues(SPOILT(b[17] = 1), 1, 16));              /* Contacting incoming, and an RIU */
+    CHECK(rescues(SPOILT(b[16] = 3, b[18] = 0), 0));
+    CHECK(rescues(SPOILT(b[16] = 3, b[18] = 0, b[17] = 1), 1, 16));
+    CHECK(rescues(SPOILT(b[30] = 1), 1, 30));              /* Connecting, Contacting incoming, an RBC */
+    CHECK(rescues(SPOILT(b[30] = 2), 1, 30));
+    CHECK(rescues(SPOILT(b[30] = 5), 0));
+    CHECK(rescues(SPOILT(b[14] = 63, b[15] = 255), 1, 9)); /* an RBC that means the last known one */
+    CHECK(rescues(SPOILT(b[14] = 255, b[15] = 255), 1, 9));
+    CHECK(rescues(SPOILT(b[14] = 254, b[15] = 255), 0));
+    CHECK(rescues(SPOILT(b[21] = 63, b[22] = 255), 0));    /* an RIU may have the number */
+    for (int k = 1; k < 7; k++)                            /* free, with another byte than zero */
+        CHECK(rescues(SPOILT(b[23 + k] = 1), 1, 23));
+    CHECK(rescues(SPOILT(b[9] = 0), 1, 9));                /* free by its phase alone */
+
+    /* a repeated partner: the lower place is kept; the type counts; a place that was not kept does not */
+    CHECK(rescues(SPOILT(b[19] = 0), 1, 16));
+    CHECK(rescues(SPOILT(b[12] = 1, b[10] = 0), 1, 16));
+    CHECK(rescues(SPOILT(b[19] = 0, b[9] = 7), 1, 9));
+    CHECK(rescues(SPOILT(b[19] = 0, b[11] = 9), 1, 9));
+    CHECK(rescues(SPOILT(b[19] = 0, b[18] = 9), 1, 16));
+    CHECK(rescues(SPOILT(memcpy(b + 23, b + 9, 7), memcpy(b + 30, b + 9, 7)), 2, 23, 30));
+    CHECK(rescues(SPOILT(memcpy(b + 16, b + 9, 7), memcpy(b + 23, b + 9, 7), memcpy(b + 30, b + 9, 7)), 3, 16, 23, 30));
+    CHECK(rescues(SPOILT(memcpy(b + 16, b + 9, 7), memcpy(b + 23, b + 9, 7), memcpy(b + 30, b + 9, 7), b[10] = 2), 3, 9, 23, 30));
+    CHECK(rescues(SPOILT(memcpy(b + 16, b + 9, 7), memcpy(b + 23, b + 9, 7), memcpy(b + 30, b + 9, 7), b[10] = b[17] = 2), 3, 9, 16, 30));
+    CHECK(rescues(SPOILT(memcpy(b + 16, b + 9, 7), memcpy(b + 23, b + 9, 7), memcpy(b + 30, b + 9, 7), b[17] = 2), 3, 16, 23, 30));
+    CHECK(rescues(SPOILT(b[23] = 3), 1, 30));              /* RBC 0 in place 2 as well; free places are no RBC 0 */
+    CHECK(rescues(SPOILT(memset(b + 9, 0, 14)), 0));
+    CHECK(rescues(SPOILT(memcpy(b + 9, b + 30, 7), memset(b + 30, 0, 7)), 0));     /* a free place does not repeat RBC 0 */
+
+    /* all eleven */
+    static const uint8_t all[42] = {
+        0xA2, 0, 7, 5, 3, 2, 3, 4, 5,
+        0, 0, 0, 0, 0, 0, 1, 3, 0, 0, 0, 0, 0x3F, 0xFF, 6, 0, 1, 0, 0, 0, 7, 3, 1, 0, 1, 0, 0, 8,
+        1, 2, 0, 0, 7};
+    CHECK(rescues(all, 11, 3, 4, 5, 6, 7, 8, 9, 16, 23, 30, 38));
+    memset(b, 255, 42);
+    b[0] = 0xA2;
+    CHECK(check_rescue(b, 42) == 11);
+    b[1] = b[2] = 7;
+    b[37] = 9;
+    CHECK(rescues(b, 11, 3, 4, 5, 6, 7, 8, 9, 16, 23, 30, 38));
+
+    /* each byte at each value; two bytes at those that matter */
+    static const uint8_t values[] = {0, 1, 2, 3, 4, 5, 6, 7, 9, 10, 63, 127, 255};
+    for (int i = 0; i < 42; i++)
+        for (int v = 0; v < 256; v++)
+            check_rescue(SPOILT(b[i] = (uint8_t)v), 42);
+    for (int i = 0; i < 42; i++)
+        for (int j = 0; j < i; j++)
+            for (size_t v = 0; v < sizeof values; v++)
+                for (size_t w = 0; w < sizeof values; w++)
+                    check_rescue(SPOILT(b[i] = values[v], b[j] = values[w]), 42);
+
+    /* random sound images as they are, and spoilt: single bytes, bytes of other places, whole places, anything */
+    Rng g = {0x0213};
+    for (int k = 0; k < 100000; k++) {
+        State s;
+        random_sound(&g, &s);
+        image_store(&s, b);
+        if (k % 8 == 0) CHECK(rescues(b, 0));
+        for (uint32_t c = 1 + rng_below(&g, k % 4 == 0 ? 20 : 4); c > 0; c--) {
+            const uint32_t at = rng_below(&g, 42), place = 9 + 7 * rng_below(&g, 4), other = 9 + 7 * rng_below(&g, 4);
+            switch (rng_below(&g, 8)) {
+            case 0: case 1: b[3 + at % 39] = values[rng_below(&g, sizeof values)]; break;
+            case 2: b[3 + at % 39] ^= (uint8_t)(1u << rng_below(&g, 8)); break;
+            case 3: b[place + at % 7] = (uint8_t)rng_below(&g, 256); break;
+            case 4: memmove(b + place + 3, b + other + 3, 4); break;
+            case 5: memmove(b + place, b + other, 7); break;
+            case 6: b[3 + at % 6] = (uint8_t)rng_below(&g, 3); break;
+            default: b[at] = (uint8_t)rng_below(&g, at < 3 || at == 37 ? 10 : 256); break;
+            }
+        }
+        check_rescue(b, k % 500 == 0 ? rng_below(&g, 64) : 42);
+        if (k % 16 == 0) {                                 /* most fields anything at all */
+            image_store(&s, b);
+            for (int i = 3; i < 42; i += i < 9 ? 1 : i < 37 ? 7 : 4) {
+                if (i == 37) i++;
+                const bool any = rng_below(&g, 8) != 0;
+                for (int m = i; any && m < i + (i < 9 ? 1 : i < 37 ? 7 : 4); m++) b[m] = (uint8_t)rng_next(&g);
+            }
+            check_rescue(b, 42);
+        }
+    }
+    for (int f = 0; f < 11; f++) CHECK(field_hit[f] > 1000);
+    for (int c = 0; c < 12; c++) CHECK(count_hit[c] > 100);
+    CHECK(rescue_hit[0] > 100000 && rescue_hit[1] > 100 && rescue_hit[2] > 100 && rescue_hit[11] > 1000);
+#undef SPOILT
+}
+
 /* ---- runs ---- */
 
 static uint8_t big[LOG_MOST + 1];
@@ -1702,6 +1972,7 @@ int main(void)
     images();
     random_steps();
     last_known();
+    rescue();
     runs();
     sheets();
     printf("%lu checks, %lu failures\n", checks, failures);

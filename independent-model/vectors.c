@@ -1,5 +1,5 @@
-/* Test vectors of document 01 with the requests Q-2, Q-3, Q-4 and Q-6 of document 02, computed by
- * the model.
+/* Test vectors of document 01 with the requests Q-2, Q-3, Q-4, Q-6 and Q-13 of document 02, computed
+ * by the model.
  *   vectors list                     the number of vectors and bytes of each group
  *   vectors write FILE               all vectors
  *   vectors write-full FILE          the same, and an A1 image's bytes at all 256 values
@@ -7,7 +7,9 @@
  *                                    expectation of the k-th vector of the file is wrong;
  *                                    1000 + k: its place byte, 2000 + k: its phase byte,
  *                                    3000 + k: n of an expected state, 4000 + k: a byte of the
- *                                    last known RBC of an expected state (a mix has no n)
+ *                                    last known RBC of an expected state (a mix has no n);
+ *                                    5000 + k: a listed field of a rescue, 6000 + k: a byte of its
+ *                                    image at exit
  *
  * A vector is the length of its body (2 bytes, big-endian) and the body: group, operation,
  * operands, expectations. A state is 41 bytes, those of an A2 image behind its kind; flag and
@@ -29,6 +31,7 @@
  *    9 COLD_DEFAULT  lowest, highest; code, state
  *   10 STORE_OLD     (A1) as STORE
  *   11 LOAD_NEW      (A2 alone) as LOAD
+ *   12 RESCUE        length, bytes; code, count of fields, their first offsets, the bytes at exit
  *
  * Where the code, the place and phase, or all of an answer to be expected were written down by
  * hand here, they are compared with the model's; place and phase of every step, and the soundness
@@ -39,11 +42,14 @@
 #include <stdlib.h>
 #include <string.h>
 
-enum { GROUPS = 12, BODY_MOST = 8000, STATE_BYTES = IMAGE_BYTES - 1, ANY = 255 };
-enum { SPOIL_ONE, SPOIL_PLACE, SPOIL_PHASE, SPOIL_N, SPOIL_LAST, SPOIL_PART = 1000 };
+enum { GROUPS = 13, BODY_MOST = 8000, STATE_BYTES = IMAGE_BYTES - 1, ANY = 255 };
+enum {
+    SPOIL_ONE, SPOIL_PLACE, SPOIL_PHASE, SPOIL_N, SPOIL_LAST, SPOIL_LISTED, SPOIL_EXIT,
+    SPOIL_PART = 1000
+};
 enum {
     OP_COLD = 1, OP_STEP, OP_STORE, OP_LOAD, OP_RUN, OP_LONG, OP_HISTORY, OP_MIX, OP_COLD_DEFAULT,
-    OP_STORE_OLD, OP_LOAD_NEW, OPS = OP_LOAD_NEW
+    OP_STORE_OLD, OP_LOAD_NEW, OP_RESCUE, OPS = OP_RESCUE
 };
 
 typedef struct {
@@ -56,16 +62,17 @@ typedef struct {
                                  * that tells where the partner stands, if there is one */
     bool tells;                 /* it is of such a refusal */
     uint32_t n_at, last_at;     /* n of an expected state, the flag of its last known RBC, 0: none */
+    uint32_t list_at, exit_at;  /* the first listed field of a rescue, a byte of its image, 0: none */
     uint64_t mixed;             /* a hash of the body */
 } Vector;
 
-static uint8_t bytes[8u << 20];
+static uint8_t bytes[10u << 20];
 static size_t used;
-static Vector vectors[60000];
+static Vector vectors[90000];
 static size_t count;
 static const char *const group_name[GROUPS + 1] = {
     "", "cells", "refusals", "fields", "orders", "unsound", "images", "buffers", "runs", "histories",
-    "tries", "last", "kinds",
+    "tries", "last", "kinds", "rescues",
 };
 
 static void fail(const char *why)
@@ -466,6 +473,83 @@ static void read_vector(int group, const uint8_t *image, size_t length, unsigned
 static void read_new_vector(int group, const uint8_t *image, size_t length, unsigned want)
 {
     load_as(group, image, length, want, false);
+}
+
+/* The fields that a rescue may change: their first offsets, their lengths. */
+static const uint8_t field_at[RESCUE_MOST] = {3, 4, 5, 6, 7, 8, 9, 16, 23, 30, 38};
+static const uint8_t field_bytes[RESCUE_MOST] = {1, 1, 1, 1, 1, 1, 7, 7, 7, 7, 4};
+
+/* Request Q-13, plainly: the fields are put one after the other into a cold image with these X
+ * numbers and this n; one that it is not sound with is left out. Gives the code, the fields left
+ * out (bit f: field f), and the image. A check on the model, which tests each field by itself. */
+static unsigned plainly_rescued(uint8_t *image, size_t length, unsigned *left_out)
+{
+    uint8_t b[IMAGE_BYTES] = {0xA2};
+    *left_out = 0;
+    if (length == 0)
+        return 1;
+    if (image[0] != 0xA2)
+        return 2;
+    if (length != 42)
+        return 1;
+    b[1] = image[1];
+    b[2] = image[2];
+    b[37] = image[37];
+    if (!plainly_sound(b))
+        return 11;
+    for (unsigned f = 0; f < RESCUE_MOST; f++) {
+        memcpy(b + field_at[f], image + field_at[f], field_bytes[f]);
+        if (!plainly_sound(b)) {
+            memset(b + field_at[f], 0, field_bytes[f]);
+            *left_out |= 1u << f;
+        }
+    }
+    memcpy(image, b, 42);
+    return 0;
+}
+
+/* Expected by hand: the code, and the changed fields (bit f: field f; NO_HAND: not by hand). */
+enum { NO_HAND = 1 << RESCUE_MOST };
+
+static void rescue_vector(const uint8_t *image, size_t length, unsigned want, unsigned fields)
+{
+    uint8_t after[256], plain[256], listed[RESCUE_MOST], found;
+    unsigned changed;
+    memset(after, 0, sizeof after);
+    memcpy(after, image, length);
+    memcpy(plain, after, sizeof plain);
+    begin(13, OP_RESCUE);
+    u8((unsigned)length);
+    raw(image, length);
+    const uint8_t c = image_rescue(after, length, listed, &found);
+    compare(c, want);
+    compare(c, plainly_rescued(plain, length, &changed));
+    if (fields != NO_HAND && fields != changed)
+        fail("other fields by hand");
+    if (memcmp(after, plain, sizeof after) != 0)
+        fail("another image by the plain reading");
+    code(c);
+    u8(found);
+    if (found > 0)
+        now.list_at = (uint32_t)n;
+    unsigned k = 0;
+    for (unsigned f = 0; f < RESCUE_MOST; f++) {
+        const bool differs = memcmp(after + field_at[f], image + field_at[f], length == 42 ? field_bytes[f] : 0) != 0;
+        if (differs != (changed >> f & 1))
+            fail("a changed field that the plain reading keeps, or the other way round");
+        if (differs && (k >= found || listed[k++] != field_at[f]))
+            fail("another list by the plain reading");
+    }
+    if (k != found)
+        fail("a longer list than the plain reading's");
+    raw(listed, found);
+    now.state_at = length > 3 ? (uint32_t)n + 3 : now.code_at;
+    now.exit_at = length > 3 ? (uint32_t)n + (found > 0 ? listed[0] : 3) : 0;
+    raw(after, length);
+    if (c == 0 && (!plainly_sound(after) || image_rescue(after, length, listed, &found) != 0 || found != 0 ||
+                   memcmp(after, plain, sizeof after) != 0))
+        fail("a rescued image is not sound, or a second rescue changes it");
+    end();
 }
 
 static void run_expected(const State *s, const uint8_t *log, size_t length, uint32_t budget,
@@ -3317,6 +3401,527 @@ static void kinds(void)
     sweep(b, OLD_IMAGE_BYTES, 0);
 }
 
+/* ---- group 13: rescues ---- */
+
+static void rescue(const uint8_t *image, unsigned fields) { rescue_vector(image, IMAGE_BYTES, 0, fields); }
+
+/* A place that is held and sound becomes unsound by itself. The ways before OTHER_PARTNER leave its
+ * partner as it is. */
+enum { OTHER_PARTNER = 11, PLACE_WAYS = 18 };
+
+static void spoil_place(uint8_t *p, unsigned how, unsigned tries_most)
+{
+    const bool open = p[0] == OPEN;
+    switch (how % PLACE_WAYS) {
+    case 0: p[0] = 0; if (p[2] == 0) p[2] = 1; break;     /* free, with other bytes than zeros */
+    case 1: p[0] = 6; break;
+    case 2: p[0] = 255; break;
+    case 3: p[1] = 2; break;
+    case 4: p[1] = 255; break;
+    case 5: p[2] = (uint8_t)(open ? 1 : tries_most + 1); break;
+    case 6: p[2] = (uint8_t)(open ? tries_most : 0); break;
+    case 7: p[2] = 255; break;
+    case 8: p[0] = 1; p[1] = 1; p[2] = 1; break;          /* Connecting, Contacting incoming */
+    case 9: p[0] = 2; p[1] = 1; p[2] = 1; break;
+    case 10: p[0] |= 8; break;
+    case 11: p[3] = 2; break;
+    case 12: p[3] = 255; break;
+    case 13: p[1] = p[3] = 1; break;                      /* an RIU incoming */
+    case 14: p[3] = 0; p[5] |= 0x3F; p[6] = 255; break;   /* an RBC that means the last known one */
+    case 15: p[3] = 0; p[5] = 255; p[6] = 255; break;
+    case 16: memset(p, 0, 7); p[6] = 1; break;            /* free, with one byte more */
+    default: memset(p, 255, 7); break;
+    }
+}
+
+/* A field becomes bad by itself, whatever the other fields are. */
+static void spoil_field(uint8_t *b, unsigned f, unsigned how)
+{
+    static const uint8_t over[8] = {1, 2, 250, 255, 4, 64, 128, 3};    /* what a number is over its greatest */
+    if (f < 6) {
+        static const uint8_t most[6] = {4, 2, 1, 1, 1, 1};
+        const unsigned v = most[f] + over[how % 8];
+        b[3 + f] = (uint8_t)(v > 255 ? 255 : v);
+    } else if (f < 10) {
+        spoil_place(b + 9 + 7 * (f - 6), how, b[37]);
+    } else {
+        static const uint8_t bad[8][4] = {
+            {2, 0, 0, 5}, {0, 0, 0, 5}, {1, 0, 0x3F, 0xFF}, {0, 1, 0, 0}, {255, 255, 255, 255},
+            {1, 0xFF, 0xFF, 0xFF}, {128, 0, 0, 0}, {0, 0, 1, 0},
+        };
+        memcpy(b + 38, bad[how % 8], 4);
+    }
+}
+
+/* Three sound images: all places held; one place held by RBC 0, none known; something between. */
+static void rescue_image(uint8_t *b, unsigned which)
+{
+    State s;
+    if (which == 0) {
+        s = with_n(2, 5, 6);
+        s.level = 3;
+        s.mission = 2;
+        set_marks(&s, 7);
+        hold(&s, 0, 0x00C720FF, OPEN, INCOMING, 0);
+        hold(&s, 1, 0x01C720FF, CONTACTING, OUTGOING, 6);
+        hold(&s, 2, 0x00C77F20, LOST, INCOMING, 4);
+        hold(&s, 3, 0x01C7BFFF, ENDING, OUTGOING, 1);
+        s.last = KNOWN | 0x00413F20;
+    } else if (which == 1) {
+        s = with_n(0, 7, 1);
+        set_marks(&s, 8);
+        hold(&s, 2, 0x00000000, ENDING, OUTGOING, 1);
+    } else {
+        s = with_n(7, 7, 9);
+        s.level = 4;
+        s.mission = 1;
+        set_marks(&s, 4);
+        hold(&s, 0, 0x01000000, LOST, OUTGOING, 9);
+        hold(&s, 2, 0x00000001, CONNECTING, OUTGOING, 5);
+        hold(&s, 3, 0x00000101, OPEN, OUTGOING, 0);
+        s.last = KNOWN;
+    }
+    image_store(&s, b);
+}
+
+/* Four partners of which the first has but one byte other than each of the others. */
+static void near_image(uint8_t *b, unsigned turn)
+{
+    static const uint32_t who[4] = {A, A_RIU, A_1, A_3};
+    State s = with_n(1, 2, 3 + turn % 7);
+    set_head(&s, turn);
+    for (unsigned i = 0; i < PLACES; i++)
+        hold_form(&s, (i + turn) % 4, who[i], 3 * turn + 7 * i);
+    s.last = turn % 2 ? KNOWN | A : 0;
+    image_store(&s, b);
+}
+
+static void random_image(Rng *g, uint8_t *b)
+{
+    uint8_t lowest, highest;
+    gen_x(g, &lowest, &highest);
+    State s = with_n(lowest, highest, gen_n(g));
+    set_head(&s, rng_below(g, 180));
+    if (rng_below(g, 2))
+        s.last = KNOWN | (rng_below(g, 2) ? rng_below(g, 5) : rng_below(g, 1u << 24) & ~1u);
+    for (unsigned i = 0; i < PLACES; i++) {
+        const uint32_t type = rng_below(g, 2);
+        const uint32_t who = type << 24 | (rng_below(g, 3) ? rng_below(g, 5) : rng_below(g, 1u << 24) & ~1u);
+        const unsigned phase = rng_below(g, 7) % 6;
+        const unsigned direction = rng_below(g, 2), tries = 1 + rng_below(g, s.n);
+        bool again = phase == FREE;
+        for (unsigned j = 0; j < i; j++)
+            again |= s.phase[j] != FREE && s.partner[j] == who;
+        if (!again)
+            hold(&s, i, who, phase, phase >= OPEN && type == RBC ? direction : OUTGOING, phase == OPEN ? 0 : tries);
+    }
+    image_store(&s, b);
+}
+
+/* A value for the byte at this offset: one at an edge, one bit turned, that of another place, any. */
+static uint8_t another_value(Rng *g, const uint8_t *b, unsigned at)
+{
+    static const uint8_t edges[20] = {0, 1, 2, 3, 4, 5, 6, 7, 8, 9, 10, 63, 64, 127, 128, 191, 192, 254, 255, 1};
+    switch (rng_below(g, 4)) {
+    case 0: return edges[rng_below(g, 20)];
+    case 1: return (uint8_t)(b[at] ^ 1u << rng_below(g, 8));
+    case 2: return at >= 9 && at < 37 ? b[9 + (at - 9 + 7 * (1 + rng_below(g, 3))) % 28] : edges[rng_below(g, 4)];
+    default: return (uint8_t)rng_next(g);
+    }
+}
+
+/* Where a byte is changed: behind the X numbers, n seldom. */
+static unsigned another_place(Rng *g)
+{
+    const unsigned at = 3 + rng_below(g, 39);
+    return at == 37 && rng_below(g, 4) ? 38 : at;
+}
+
+static void rescue_refusals(void)
+{
+    uint8_t b[256], good[256], spoilt[256];
+    memset(good, 0, sizeof good);
+    rescue_image(good, 0);
+    memcpy(spoilt, good, sizeof spoilt);
+    for (unsigned f = 0; f < RESCUE_MOST; f++)
+        spoil_field(spoilt, f, f + 1);
+    rescue(spoilt, (1 << RESCUE_MOST) - 1);
+    memset(good + 42, 0x5A, sizeof good - 42);
+    rescue_vector(good, 0, 1, 0);
+
+    /* every kind, with 42 bytes, with one byte, and with lengths that are not A2's */
+    for (unsigned kind = 0; kind < 256; kind++) {
+        memcpy(b, kind % 2 ? good : spoilt, sizeof b);
+        b[0] = (uint8_t)kind;
+        if (kind != 0xA2)
+            rescue_vector(b, 42, 2, 0);
+        rescue_vector(b, 1, kind == 0xA2 ? 1 : 2, 0);
+        if (kind % 16 == 5 || (kind > 0x9F && kind < 0xA4))
+            for (unsigned length = 36; length < 46; length++)
+                if (length != 42)
+                    rescue_vector(b, length, kind == 0xA2 ? 1 : 2, 0);
+        if (kind % 4 == 1) {                   /* the kind before the X numbers and n */
+            static const uint8_t at[4] = {1, 2, 37, 37}, bad[4] = {6, 9, 0, 10};
+            b[at[kind / 4 % 4]] = bad[kind / 4 % 4];
+            rescue_vector(b, 42, 2, 0);
+        }
+    }
+    /* every length of A2, sound or not, the X numbers good or not; every length of A1 */
+    for (unsigned length = 1; length < 256; length += length < 64 ? 1 : 19) {
+        if (length != 42) {
+            rescue_vector(good, length, 1, 0);
+            memcpy(b, spoilt, sizeof b);
+            rescue_vector(b, length, 1, 0);
+            b[1 + length % 2] = 8;
+            rescue_vector(b, length, 1, 0);
+            b[37] = (uint8_t)(length % 2 ? 0 : 10);
+            rescue_vector(b, length, 1, 0);
+        }
+        memcpy(b, length % 2 ? good : spoilt, sizeof b);
+        b[0] = 0xA1;
+        rescue_vector(b, length, 2, 0);
+    }
+    /* the images that an old box wrote, and those with what A1 cannot hold */
+    State s[8];
+    const unsigned c = kind_states(s);
+    for (unsigned i = 0; i < c; i++) {
+        memset(b, 0, sizeof b);
+        image_store_old(&s[i], b);
+        rescue_vector(b, 37, 2, 0);
+        rescue_vector(b, 42, 2, 0);
+        b[3] = 5;
+        rescue_vector(b, 37, 2, 0);
+        image_store(&s[i], b);
+        rescue_vector(b, 37, 1, 0);
+        rescue(b, 0);
+    }
+
+    /* the X numbers and n: all values, the rest sound, or all of it bad */
+    for (unsigned v = 0; v < 256; v++)
+        for (unsigned k = 0; k < 4; k++) {
+            static const uint8_t other[4] = {0, 7, 3, 5};
+            memcpy(b, k % 2 ? good : spoilt, sizeof b);
+            const unsigned all = k % 2 ? 0 : (1 << RESCUE_MOST) - 1;
+            b[1] = (uint8_t)v;
+            b[2] = other[k];
+            rescue_vector(b, 42, v <= other[k] ? 0 : 11, v <= other[k] ? all : 0);
+            b[1] = other[k];
+            b[2] = (uint8_t)v;
+            rescue_vector(b, 42, v <= 7 && v >= other[k] ? 0 : 11, v <= 7 && v >= other[k] ? all : 0);
+            if (k < 2) {
+                rescue_image(b, 1);            /* sound with every n */
+                for (unsigned f = 0; f < RESCUE_MOST && k == 0; f++)
+                    if (f < 6 || f == 8 || f == 10)
+                        spoil_field(b, f, 2);
+                b[37] = (uint8_t)v;
+                rescue_vector(b, 42, v >= 1 && v <= 9 ? 0 : 11, v >= 1 && v <= 9 ? (k == 0 ? 0x53F : 0) : 0);
+            }
+        }
+    for (unsigned low = 0; low < 10; low++)
+        for (unsigned high = 0; high < 10; high++) {
+            rescue_image(b, 2);
+            b[1] = (uint8_t)low;
+            b[2] = (uint8_t)high;
+            rescue_vector(b, 42, low <= high && high <= 7 ? 0 : 11, 0);
+        }
+}
+
+/* Each byte at all 256 values; 'edges': at those of edge_value. */
+static void rescue_sweep(const uint8_t *image, bool edges)
+{
+    uint8_t b[IMAGE_BYTES];
+    memcpy(b, image, sizeof b);
+    for (unsigned at = 0; at < IMAGE_BYTES; at++) {
+        for (unsigned v = 0; v < 256; v++) {
+            if (edges && !(v <= 10 || (v & 63) == 63 || v == 128 || (v + 2 > image[at] && v < image[at] + 2u)))
+                continue;
+            b[at] = (uint8_t)v;
+            rescue_vector(b, IMAGE_BYTES, ANY, NO_HAND);
+        }
+        b[at] = image[at];
+    }
+}
+
+/* Marks, level and mission. */
+static void rescue_heads(void)
+{
+    static const uint8_t values[7] = {0, 1, 2, 7, 128, 129, 255};
+    uint8_t b[IMAGE_BYTES];
+    for (unsigned which = 0; which < 2; which++)
+        for (unsigned i = 0; i < 7; i++)
+            for (unsigned j = 0; j < 7; j++) {         /* inside, hole end: the ranges first */
+                rescue_image(b, which);
+                const unsigned inside = values[i], hole_end = values[j];
+                b[5] = (uint8_t)inside;
+                b[8] = (uint8_t)hole_end;
+                rescue(b, (inside > 1 ? 4 : 0) | (hole_end > 1 || (inside == 1 && hole_end == 1) ? 32 : 0));
+                b[6] = values[(i + j) % 7];
+                b[7] = values[(i + 2 * j) % 7];
+                rescue(b, (inside > 1 ? 4 : 0) | (b[6] > 1 ? 8 : 0) | (b[7] > 1 ? 16 : 0) |
+                       (hole_end > 1 || (inside == 1 && hole_end == 1) ? 32 : 0));
+            }
+    for (unsigned k = 0; k < 16; k++) {                /* all sixteen values of the marks, level and mission */
+        rescue_image(b, k % 3);
+        for (unsigned m = 0; m < 4; m++)
+            b[5 + m] = k >> (3 - m) & 1;
+        for (unsigned level = 0; level <= 5; level++)
+            for (unsigned mission = 0; mission <= 3; mission++) {
+                b[3] = (uint8_t)level;
+                b[4] = (uint8_t)mission;
+                if ((level + mission + k) % 2 == 0)
+                    rescue(b, (level > 4) | (mission > 2 ? 2 : 0) | ((k & 9) == 9 ? 32 : 0));
+            }
+    }
+    /* every value beside a mark that is 1 or bad */
+    for (unsigned v = 0; v < 256; v += v < 16 ? 1 : 17) {
+        rescue_image(b, 1);
+        b[5] = (uint8_t)v;
+        b[8] = 1;
+        rescue(b, v == 1 ? 32 : v > 1 ? 4 : 0);
+        b[5] = 1;
+        b[8] = (uint8_t)v;
+        rescue(b, v > 0 ? 32 : 0);
+        b[5] = b[8] = (uint8_t)v;
+        rescue(b, v > 1 ? 36 : v == 1 ? 32 : 0);
+    }
+}
+
+/* Every (phase 0 to 6, direction 0 to 2, tries 0 to 10, type 0 to 2) with each n, four to an image, each with a
+ * partner of its own. */
+static void rescue_forms(void)
+{
+    uint8_t b[IMAGE_BYTES];
+    for (unsigned most = 1; most <= 9; most++) {
+        unsigned fields = 0, held = 0;
+        for (unsigned k = 0; k < 7 * 3 * 11 * 3; k++) {
+            /* neighbours are of different phases, so that an image has places of several kinds */
+            const unsigned j = k * 223 % (7 * 3 * 11 * 3);
+            const unsigned phase = j / 99, direction = j / 33 % 3, tries = j / 3 % 11, type = j % 3;
+            if (held == 0) {
+                rescue_image(b, most % 3);
+                memset(b + 9, 0, 28);
+                b[37] = (uint8_t)most;
+            }
+            uint8_t *const p = b + 9 + 7 * held;
+            p[0] = (uint8_t)phase;
+            p[1] = (uint8_t)direction;
+            p[2] = (uint8_t)tries;
+            p[3] = (uint8_t)type;
+            p[6] = (uint8_t)(phase ? 5 + held : 0);
+            bool good;
+            if (phase == 0)
+                good = direction == 0 && tries == 0 && type == 0;
+            else
+                good = phase <= 5 && type <= 1 && direction <= (type == 0 && phase >= 3) &&
+                       (phase == 3 ? tries == 0 : tries >= 1 && tries <= most);
+            if (!good)
+                fields |= 64u << held;
+            if (++held == PLACES || k + 1 == 7 * 3 * 11 * 3) {
+                rescue(b, fields);
+                fields = held = 0;
+            }
+        }
+    }
+}
+
+/* Numbers that no RBC may have, and their neighbours; free places with other bytes; the last known RBC. */
+static void rescue_numbers(void)
+{
+    uint8_t b[IMAGE_BYTES];
+    for (unsigned i = 0; i < last_likes + miss_likes; i++) {
+        const bool like = i < last_likes;
+        const uint32_t who = like ? last_like[i] : miss_like[i - last_likes];
+        State s = with_n(1, 2, 3);
+        set_head(&s, i);
+        const unsigned place = i % 4;
+        for (unsigned k = 0; k < PLACES; k++)
+            hold_form(&s, k, 0x00000700 + k, i + 5 * k);
+        hold_form(&s, place, who, i);
+        hold_form(&s, (place + 1) % 4, 0x01000000 | who, i + 3);
+        image_store(&s, b);
+        rescue(b, like ? 64u << place : 0);
+        for (unsigned flag = 0; flag < 3; flag++) {
+            b[38] = (uint8_t)flag;
+            memcpy(b + 39, b + 9 + 7 * place + 4, 3);
+            rescue(b, (like ? 64u << place : 0) | (flag == 1 && !like ? 0 : 1024));
+        }
+        b[38] = 1;                             /* the last alone */
+        b[9 + 7 * place + 6] ^= 8;
+        b[9 + 7 * place + 5] &= 0xFE;
+        rescue(b, like ? 1024 : 0);
+    }
+    for (unsigned flag = 0; flag < 256; flag++)
+        for (unsigned at = 0; at < 4; at++) {
+            if (flag > 3 && flag % 16 != at)
+                continue;
+            rescue_image(b, flag % 3);
+            memset(b + 38, 0, 4);
+            b[38] = (uint8_t)flag;
+            if (at > 0)
+                b[38 + at] = (uint8_t)(flag % 2 ? 255 : 1);
+            rescue(b, flag == 1 || (flag == 0 && at == 0) ? 0 : 1024);
+        }
+    /* a free place: each byte, each place, below and above held ones */
+    for (unsigned place = 0; place < PLACES; place++)
+        for (unsigned at = 1; at < 7; at++)
+            for (unsigned v = 1; v < 256; v = v < 4 ? v + 1 : v < 128 ? 2 * v : v + 127) {
+                near_image(b, place + at);
+                memset(b + 9 + 7 * place, 0, 7);
+                rescue(b, 0);
+                b[9 + 7 * place + at] = (uint8_t)v;
+                rescue(b, 64u << place);
+                const uint8_t *const other = b + 9 + 7 * ((place + at) % 4);
+                if (other != b + 9 + 7 * place) {      /* all of a held place but its phase */
+                    memcpy(b + 9 + 7 * place + 1, other + 1, 6);
+                    rescue(b, 64u << place);
+                }
+            }
+}
+
+/* Each place free, held by one of two partners, or by one of them and unsound. */
+static void rescue_chains(void)
+{
+    static const uint32_t two[3][2] = {{A, A_RIU}, {0x00000000, 0x01000000}, {0x01FFFFFF, 0x00FFFFFE}};
+    uint8_t b[IMAGE_BYTES];
+    for (unsigned set = 0; set < 3; set++)
+        for (unsigned k = 0; k < 625; k++) {
+            static const unsigned power[4] = {1, 5, 25, 125};
+            unsigned kind[4], fields = 0;
+            State s = with_n(0, 7, 3 + (set + k) % 7);
+            set_head(&s, k + set);
+            for (unsigned i = 0; i < PLACES; i++) {
+                kind[i] = k / power[i] % 5;    /* 0 free, 1 and 2 sound, 3 and 4 the same but unsound */
+                if (kind[i] > 0)
+                    hold_form(&s, i, two[set][(kind[i] - 1) % 2], k + 7 * i + set);
+            }
+            image_store(&s, b);
+            for (unsigned i = 0; i < PLACES; i++) {
+                bool bad = kind[i] > 2;
+                if (bad)
+                    spoil_place(b + 9 + 7 * i, (k + 3 * i + set) % OTHER_PARTNER, s.n);
+                for (unsigned j = 0; j < i; j++)
+                    bad |= kind[i] > 0 && kind[i] < 3 && kind[j] == kind[i];
+                if (bad)
+                    fields |= 64u << i;
+            }
+            rescue(b, fields);
+        }
+    /* one partner in all places that are held: every choice of places, of those that are unsound, each way */
+    for (unsigned held = 1; held < 16; held++)
+        for (unsigned bad = 0; bad < 16; bad++)
+            for (unsigned how = 0; how < OTHER_PARTNER && !(bad & ~held); how += bad ? 1 : 4) {
+                unsigned fields = 0, kept = 0;
+                State s = with_n(3, 4, 9);
+                for (unsigned i = 0; i < PLACES; i++)
+                    if (held >> i & 1)
+                        hold_form(&s, i, how % 3 ? A : 0, how + 3 * i);
+                s.last = KNOWN | A;
+                image_store(&s, b);
+                for (unsigned i = 0; i < PLACES; i++) {
+                    if (bad >> i & 1)
+                        spoil_place(b + 9 + 7 * i, how, 9);
+                    if ((bad >> i & 1) || (held >> i & kept & 1))
+                        fields |= 64u << i;
+                    else
+                        kept |= held >> i & 1;
+                }
+                rescue(b, fields);
+            }
+}
+
+/* Two bytes changed, or few, by what they do; then any two, any number. */
+static void rescue_pairs(unsigned pairs, unsigned many)
+{
+    uint8_t b[IMAGE_BYTES], from[IMAGE_BYTES];
+    /* a place gets the byte of another place; a second place gets one too, or is spoilt */
+    for (unsigned turn = 0; turn < 4; turn++)
+        for (unsigned one = 0; one < 6; one++)
+            for (unsigned other = 0; other < 6 + 4 * PLACE_WAYS; other++) {
+                if (other >= 6 && (one + other + turn) % 2)
+                    continue;
+                near_image(from, turn);
+                memcpy(b, from, sizeof b);
+                for (unsigned k = 0; k < 2; k++) {
+                    const unsigned act = k == 0 ? one : other;
+                    static const uint8_t at[3] = {3, 4, 6};            /* where the first partner has another byte */
+                    if (act < 6) {
+                        const unsigned first = turn % 4, second = (turn + 1 + act % 3) % 4;
+                        const unsigned to = act < 3 ? first : second, of = act < 3 ? second : first;
+                        b[9 + 7 * to + at[act % 3]] = from[9 + 7 * of + at[act % 3]];
+                    } else {
+                        spoil_place(b + 9 + 7 * (act % 4), act / 4, b[37]);
+                    }
+                }
+                rescue(b, NO_HAND);
+            }
+    Rng g = {0x5E5C0E};
+    for (unsigned k = 0; k < pairs + many; k++) {
+        if (k % 4 == 0)
+            rescue_image(b, k / 4 % 3);
+        else if (k % 4 == 1)
+            near_image(b, k);
+        else
+            random_image(&g, b);
+        const unsigned changes = k < pairs ? 2 : 3 + rng_below(&g, k % 2 ? 6 : 30);
+        for (unsigned i = 0; i < changes; i++) {
+            const unsigned at = another_place(&g);
+            b[at] = another_value(&g, b, at);
+        }
+        if (k >= pairs && k % 8 == 7)          /* anything at all, with X numbers and n that are good */
+            for (unsigned at = 3; at < IMAGE_BYTES; at++)
+                if (at != 37)
+                    b[at] = (uint8_t)rng_next(&g);
+        if (k >= pairs && k % 16 == 9)
+            b[1 + k / 16 % 2] = another_value(&g, b, 1);
+        rescue_vector(b, IMAGE_BYTES, ANY, NO_HAND);
+    }
+}
+
+/* Sound images: no byte changes. */
+static void rescue_sound(unsigned images)
+{
+    uint8_t b[IMAGE_BYTES];
+    Rng g = {0x50D};
+    for (unsigned low = 0; low <= 7; low++)
+        for (unsigned high = low; high <= 7; high++) {
+            const State s = with_n(low, high, 1 + (low + 3 * high) % 9);
+            image_store(&s, b);
+            rescue(b, 0);
+        }
+    for (unsigned k = 0; k < 180; k += 3) {
+        near_image(b, k);
+        rescue(b, 0);
+    }
+    for (unsigned k = 0; k < images; k++) {
+        random_image(&g, b);
+        rescue(b, 0);
+    }
+}
+
+static void rescues(void)
+{
+    uint8_t b[IMAGE_BYTES];
+    rescue_refusals();
+    rescue_sound(400);
+    rescue_heads();
+    rescue_forms();
+    rescue_numbers();
+    rescue_chains();
+    /* every choice of bad fields, in changing ways */
+    for (unsigned fields = 0; fields < 1 << RESCUE_MOST; fields++) {
+        rescue_image(b, 0);
+        for (unsigned f = 0; f < RESCUE_MOST; f++)
+            if (fields >> f & 1)
+                spoil_field(b, f, fields % 37 + 5 * f);
+        rescue(b, fields);
+    }
+    rescue_pairs(2000, 2000);
+    for (unsigned which = 0; which < 3; which++) {
+        rescue_image(b, which);
+        rescue_sweep(b, which == 2);
+    }
+}
+
 /* ---- the program ---- */
 
 static void make_all(void)
@@ -3333,6 +3938,7 @@ static void make_all(void)
     tries();
     last();
     kinds();
+    rescues();
 }
 
 static void list(void)
@@ -3376,7 +3982,8 @@ static int small(const char *name, unsigned long spoil)
             size_t all = 0, k = 0;
             for (size_t i = 0; i < count; i++)
                 all += vectors[i].group == g && vectors[i].op == o;
-            const size_t some = g == 1 || o == OP_HISTORY || (g == 2 && o == OP_STEP) ? 4 : o == OP_STEP || o == OP_MIX ? 3 : 2;
+            const size_t some = o == OP_RESCUE ? 6 : g == 1 || o == OP_HISTORY || (g == 2 && o == OP_STEP) ? 4 :
+                                o == OP_STEP || o == OP_MIX ? 3 : 2;
             for (size_t i = 0; i < count; i++)
                 if (vectors[i].group == g && vectors[i].op == o) {
                     for (size_t j = 0; j < some; j++)        /* the middle of each part */
@@ -3407,6 +4014,32 @@ static int small(const char *name, unsigned long spoil)
             printf("spoiled vector %zu (group %u, op %u): body byte %u, %s with code %u, %u instead of %u\n",
                    chosen, v->group, v->op, at, byte == SPOIL_PLACE ? "place" : "phase",
                    b[byte == SPOIL_PLACE ? -2 : -3], *b, old);
+        } else if (chosen == spoil && byte == SPOIL_LISTED) {
+            /* a listed field becomes one that is not, so that the list is ascending still */
+            uint8_t *const list = out + length + 2 + v->list_at;
+            const unsigned listed = v->list_at ? list[-1] : 0;
+            unsigned i, f = RESCUE_MOST;
+            for (i = 0; i < listed && f == RESCUE_MOST; i += f == RESCUE_MOST)
+                for (f = 0; f < RESCUE_MOST; f++)
+                    if (field_at[f] != list[i] && (i == 0 || field_at[f] > list[i - 1]) &&
+                        (i + 1 == listed || field_at[f] < list[i + 1]))
+                        break;
+            if (i == listed) {
+                fprintf(stderr, "vector %zu (group %u, op %u) lists none, or all\n", chosen, v->group, v->op);
+                return 1;
+            }
+            printf("spoiled vector %zu (group %u, op %u): body byte %u, listed field, %u instead of %u\n", chosen, v->group,
+                   v->op, v->list_at + i, field_at[f], list[i]);
+            list[i] = field_at[f];
+        } else if (chosen == spoil && byte == SPOIL_EXIT) {
+            uint8_t *const b = out + length + 2 + v->exit_at;
+            if (v->exit_at == 0) {
+                fprintf(stderr, "vector %zu (group %u, op %u) expects no image\n", chosen, v->group, v->op);
+                return 1;
+            }
+            *b ^= 1;
+            printf("spoiled vector %zu (group %u, op %u): body byte %u, image at exit, %u instead of %u\n", chosen, v->group,
+                   v->op, v->exit_at, *b, *b ^ 1);
         } else if (chosen == spoil && byte >= SPOIL_N) {
             /* a known RBC has another number, one that is not known becomes RBC 0 */
             uint32_t at = byte == SPOIL_N ? v->n_at : v->last_at;

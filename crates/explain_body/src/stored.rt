@@ -74,7 +74,8 @@ fn refused(code: u8) {
     say(b"\n");
 }
 
-fn print_bytes(bytes: &[u8]) {
+// Bytes in hex.
+pub(crate) fn print_bytes(bytes: &[u8]) {
     let mut i = 0;
     while i < bytes.len() {
         io::print_hex(STDOUT_FILENO, byte_at(bytes, i) as u64, 2);

@@ -2,5 +2,8 @@ pub mod Bytes
 pub mod RoundTrips
 pub mod Putting
 pub mod Taking
+pub mod Mending
+pub mod Rescuing
+pub mod Left
 pub mod OneAnswer
 pub mod Agreed

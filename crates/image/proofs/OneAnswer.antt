@@ -1,5 +1,5 @@
 -- No second answer satisfies the contract of a public function: a line for each of this crate's, over the contract as the checker names it.
--- Proves: write-a2-once, write-a1-once, same-once, read-a2-once, read-image-once.
+-- Proves: write-a2-once, write-a1-once, same-once, read-a2-once, read-image-once, size-of-once, rescue-once.
 use mathlib.Core.Path.{_≡_, sym, _∙_}
 use denote.Ref.{now}
 use Rattle.image.proofs.write.write_a2.Reads as write-a2
@@ -7,6 +7,8 @@ use Rattle.image.proofs.write.write_a1.Reads as write-a1
 use Rattle.image.proofs.read.same.Reads as same
 use Rattle.image.proofs.read.read_a2.Reads as read-a2
 use Rattle.image.proofs.read.read_image.Reads as read-image
+use Rattle.image.proofs.rescue.size_of.Reads as size-of
+use Rattle.image.proofs.rescue.rescue.Reads as rescue
 
 pub write-a2-once : (κ : _) (state : _) (buffer : _) (r₁ : _) (r₂ : _) (buffer₁ : _) (buffer₂ : _)
     → write-a2.Post κ (state, (buffer, tt)) r₁ (state, (buffer₁, tt))
@@ -37,3 +39,15 @@ pub read-image-once : (κ : _) (bytes : _) (r₁ : _) (r₂ : _)
     → read-image.Post κ (bytes, tt) r₂ (bytes, tt)
     → r₁ ≡ r₂
 read-image-once κ bytes r₁ r₂ p q = p ∙ sym q
+
+pub size-of-once : (κ : _) (at : _) (r₁ : _) (r₂ : _)
+    → size-of.Post κ (at, tt) r₁ (at, tt)
+    → size-of.Post κ (at, tt) r₂ (at, tt)
+    → r₁ ≡ r₂
+size-of-once κ at r₁ r₂ p q = p ∙ sym q
+
+pub rescue-once : (κ : _) (image : _) (r₁ : _) (r₂ : _) (image₁ : _) (image₂ : _)
+    → rescue.Post κ (image, tt) r₁ (image₁, tt)
+    → rescue.Post κ (image, tt) r₂ (image₂, tt)
+    → (r₁ ≡ r₂) × (now image₁ ≡ now image₂)
+rescue-once κ image r₁ r₂ image₁ image₂ p q = (p .0 ∙ sym (q .0), p .1 ∙ sym (q .1))

@@ -1,5 +1,5 @@
 -- Reading and writing images, on the definitions.
--- Proves: fits-tail, tail-fits, read-written, readA2-written, readA1-written, writtenA2-read, written-read, read-free.
+-- Proves: fits-tail, tail-fits, read-written, readA2-written, readA1-written, writtenA2-read, written-read, place-in-either, read-free.
 use mathlib.Core.Path.{_≡_, refl, ap, ap₂, sym, _∙_}
 use mathlib.Core.Logic.{_↔_, _⊎_, inl, inr, ⊎-elim}
 use mathlib.Core.Bool.{true, cond}
@@ -151,7 +151,7 @@ module _ (s : State) (i : ℕ) (below : i < length (s .places)) where
       ap (take placeSize) (sym (drop-drop (placeSize * i) placesAt ((kind ∷ bodyBytes s) ++ rest)))
       ∙ place-bytes-at (s .places) rest i below
 
-  place-in-either : (bytes : List ℕ)
+  pub place-in-either : (bytes : List ℕ)
       → (imageA2 s ≡ bytes) ⊎ ((fitsA1 s ≡ true) × (imageA1 s ≡ bytes))
       → take placeSize (drop (placesAt + placeSize * i) bytes) ≡ placeBytes (getD (s .places) i vacant)
   unfolding imageA1 imageA2 wholeBytes

@@ -1,5 +1,5 @@
 -- Document 01, "Stored image", and request Q-4: the bytes of a state as A1 and as A2, and the state of such bytes.
--- Defines: kindA1, kindA2, sizeA1, sizeA2, placeSize, placeBytes, placesBytes, markByte, headBytes, bodyBytes, lastBytes, tailBytes,
+-- Defines: kindA1, kindA2, sizeA1, sizeA2, placeSize, placeBytes, placesBytes, markByte, headBytes, bodyBytes, lastSize, lastBytes, tailBytes,
 -- wholeBytes, imageA1, imageA2, isUnknown, fitsA1, writeRefused, writeAccepted, writeA2, writeA1, imagedA2, imagedA1, phaseOf,
 -- directionOf, heldIn, placeIn, placesIn, headSize, placesAt, tailAt, lastAt, lastIn, stateIn, sameBytes, readRefused, isBodyOf,
 -- readBody, tailOfA1, ofLength, readA2, readImage.
@@ -75,8 +75,11 @@ unfoldable pub bodyBytes : State → List ℕ
 bodyBytes s = headBytes s ++ placesBytes (s .places)
 
 -- Q-4: "then 1 and the last RBC's three bytes, or four zeros when none is known"
+abbrev pub lastSize : ℕ
+lastSize = 4
+
 abbrev pub lastBytes : Last → List ℕ
-lastBytes Unknown = replicate 4 0
+lastBytes Unknown = replicate lastSize 0
 lastBytes (Known high middle low) = 1 ∷ high ∷ middle ∷ low ∷ []
 
 -- Q-4: "the 36 old body bytes, then n, then .."

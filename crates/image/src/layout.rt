@@ -1,4 +1,4 @@
-// The layout of an image: its kinds, their lengths, and where its places begin.
+// The layout of an image: its kinds, their lengths, and where its places and the last known RBC begin.
 
 // The kinds of an image.
 pub const KIND_A1: u8 = 0xA1;
@@ -14,3 +14,8 @@ pub const SIZE_A2: usize = 42;
 pub const PLACES_AT: usize = 9;
 
 pub const PLACE_SIZE: usize = 7;
+
+// Where the last known RBC begins in A2, and its bytes.
+pub const LAST_AT: usize = 38;
+
+pub const LAST_SIZE: usize = 4;

@@ -54,7 +54,7 @@ fn direction_of(number: u8) -> Direction
 }
 
 // The place that the seven bytes from here on stand for, if any does.
-fn place_at(s: &[u8], at: usize) -> Place
+pub(crate) fn place_at(s: &[u8], at: usize) -> Place
     requires { ⌜ at < 64 ⌝ }
     ensures { λ r. ⌜ r ≡ placeIn (drop at (now (s .entry))) ⌝ }
 {
@@ -73,7 +73,7 @@ fn place_at(s: &[u8], at: usize) -> Place
     Place::held(direction, phase_of(phase, tries), partner)
 }
 
-fn limits_in(s: &[u8]) -> Limits
+pub(crate) fn limits_in(s: &[u8]) -> Limits
     ensures { λ r. ⌜ r ≡ stateIn (now (s .entry)) .limits ⌝ }
 {
     Limits {
@@ -83,7 +83,7 @@ fn limits_in(s: &[u8]) -> Limits
     }
 }
 
-fn train_in(s: &[u8]) -> Train
+pub(crate) fn train_in(s: &[u8]) -> Train
     ensures { λ r. ⌜ r ≡ stateIn (now (s .entry)) .train ⌝ }
 {
     Train {
@@ -92,7 +92,7 @@ fn train_in(s: &[u8]) -> Train
     }
 }
 
-fn marks_in(s: &[u8]) -> Marks
+pub(crate) fn marks_in(s: &[u8]) -> Marks
     ensures { λ r. ⌜ r ≡ stateIn (now (s .entry)) .marks ⌝ }
 {
     Marks {
@@ -103,7 +103,7 @@ fn marks_in(s: &[u8]) -> Marks
     }
 }
 
-fn last_in(s: &[u8]) -> Last
+pub(crate) fn last_in(s: &[u8]) -> Last
     ensures { λ r. ⌜ r ≡ stateIn (now (s .entry)) .last ⌝ }
 {
     let flag = byte_at(s, 37);

@@ -5,6 +5,7 @@ pub mod given;
 pub mod histories;
 pub mod mixes;
 pub mod part;
+pub mod rescues;
 pub mod runs;
 pub mod single;
 pub mod tally;

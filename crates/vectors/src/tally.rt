@@ -4,15 +4,15 @@ use crate::part::wide;
 use libc::STDOUT_FILENO;
 
 // The groups, and a place for vectors of no group.
-const ROWS: usize = 13;
+const ROWS: usize = 14;
 
 // The most failures that are named.
 const MOST_NAMED: u64 = 100;
 
 // Vectors judged and failed, of each group and in all; row 0 is for vectors of no group.
 pub struct Tally {
-    judged: [u64; 13],
-    failed: [u64; 13],
+    judged: [u64; 14],
+    failed: [u64; 14],
     all: u64,
     all_failed: u64,
 }
@@ -22,7 +22,7 @@ fn more(n: u64) -> u64 {
 }
 
 fn row_of(group: u8) -> usize
-    ensures { λ r. ⌜ r < 13 ⌝ }
+    ensures { λ r. ⌜ r < 14 ⌝ }
 {
     let row = wide(group);
     if row < ROWS { row } else { 0 }
@@ -51,6 +51,7 @@ fn write_name(row: usize) -> bool {
         10 => io::write_all(STDOUT_FILENO, b"tries"),
         11 => io::write_all(STDOUT_FILENO, b"last"),
         12 => io::write_all(STDOUT_FILENO, b"kinds"),
+        13 => io::write_all(STDOUT_FILENO, b"rescues"),
         _ => io::write_all(STDOUT_FILENO, b"all"),
     }
 }
@@ -68,8 +69,8 @@ impl Tally {
     // No vector.
     pub(crate) fn none() -> Tally {
         Tally {
-            judged: [0; 13],
-            failed: [0; 13],
+            judged: [0; 14],
+            failed: [0; 14],
             all: 0,
             all_failed: 0,
         }

@@ -5,6 +5,7 @@
 use crate::histories::history_holds;
 use crate::mixes::mixes_hold;
 use crate::part::rest;
+use crate::rescues::rescue_holds;
 use crate::runs::long_run_holds;
 use crate::runs::run_holds;
 use crate::single::default_holds;
@@ -16,8 +17,8 @@ use crate::single::store_a1_holds;
 use crate::single::store_holds;
 use wire::byte::byte_at;
 
-// The groups are 1 to 12.
-const GROUPS: u8 = 12;
+// The groups are 1 to 13.
+const GROUPS: u8 = 13;
 
 // X numbers (2), tries; code, state
 const COLD_START: u8 = 1;
@@ -53,6 +54,9 @@ const STORE_A1: u8 = 10;
 
 const LOAD_A2: u8 = 11;
 
+// length (1), bytes; code, count, the fields, the bytes at exit
+const RESCUE: u8 = 12;
+
 // The group of a vector; 0 where no group has that number.
 pub(crate) fn group_of(body: &[u8]) -> u8 {
     let group = byte_at(body, 0);
@@ -72,6 +76,7 @@ fn operation_holds(operation: u8, s: &[u8]) -> bool {
         DEFAULT_START => default_holds(s),
         STORE_A1 => store_a1_holds(s),
         LOAD_A2 => load_a2_holds(s),
+        RESCUE => rescue_holds(s),
         _ => false,
     }
 }

@@ -1,7 +1,7 @@
 -- "Image read: 1 (empty), 2, 1 (length), 11": which of the refusals a reading answers, and what a refused one holds.
 -- Proves: read-empty, read-kind, readA2-kind, readA1-length, readA2-length, read-refused, readA2-refused.
 use mathlib.Core.Path.{_≡_, refl, ap, _∙_}
-use mathlib.Core.Bool.{false, cond}
+use mathlib.Core.Bool.{cond}
 use mathlib.Core.List.{List, [], _∷_, _++_}
 use Prim.Native.Nat.{ℕ}
 use lib.Dec.{eqb}
