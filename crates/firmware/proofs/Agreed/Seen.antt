@@ -1,0 +1,314 @@
+-- Request Q-14: "Demands 2 and 3 are read through the images, starting from one that a cold start wrote".
+-- Proves: places-seen, image-follows, numbers-follow, bytes-follow, sums-follow, seen-bound, seen-taken-in, seen-reached,
+-- seen-waiting, seen-released-once.
+use mathlib.Core.Path.{_≡_, refl, sym, ap, ap₂, subst, _∙_}
+use mathlib.Core.Logic.{_↔_, _⊎_}
+use mathlib.Core.Bool.{Bool, true, false, cond, _&&_}
+use mathlib.Core.List.{List, _++_, map}
+use Prim.Native.Nat.{ℕ, _+_, _*_, _≤_, _<_}
+use native.Mathlib.Omega.{arith}
+use lib.Dec.{eqb}
+use lib.IntN.{pos, negℤ}
+use lib.ListN.{length, take, drop}
+use lib.Seq.{take-at}
+use borrow.Author.Tests.{eq-eqb}
+use Rattle.wire.specs.Refusals.{accepted}
+use Rattle.wire.specs.Bytes.{byte}
+use Rattle.record.specs.declared.partner.Partner.{Partner}
+use Rattle.record.specs.Partners.{samePartner}
+use Rattle.place.specs.Table.{release}
+use Rattle.unit.specs.Steps.{Outcome}
+use Rattle.unit.specs.Kept.{count}
+use Rattle.unit.specs.States.{placeCount, sound, coldStart}
+use Rattle.unit.specs.OnRecords.{actionRoom, actionSize, onRecord, trace, actionBytes, written}
+use Rattle.unit.specs.declared.state.State.{State}
+use Rattle.unit.specs.declared.answer.Action.{Action}
+use Rattle.unit.proofs.Facts.{sound-facts}
+use Rattle.unit.proofs.Starts.{cold-sound}
+use Rattle.unit.proofs.Agreed.Starts.{start-accepted}
+use Rattle.unit.proofs.Agreed.Writing.{written-front}
+use Rattle.image.specs.Images.{imageA2, imagedA2, readA2}
+use Rattle.image.proofs.Bytes.{imageA2-length}
+use Rattle.image.proofs.Putting.{wrote-a2}
+use Rattle.image.proofs.RoundTrips.{readA2-written, writtenA2-read}
+use Rattle.image.proofs.Agreed.Tails.{imageA2-tries}
+use Rattle.history.specs.Histories.{after, summed, orders, calls, losses, actions, releases, placesHeld, silent, timeouts}
+use Rattle.history.specs.Histories.{isOrder, isCall, isLoss, holdsPlace, waits}
+use Rattle.history.specs.Histories.{perOrder, perCall, perLoss, timeoutsToRelease, one, acceptedAs}
+use Rattle.history.specs.Reaching.{reaching, Sums, sumsOf}
+use Rattle.history.proofs.Along.{after-sound}
+use Rattle.history.proofs.Bounds.{bound}
+use Rattle.history.proofs.Reached.{reached}
+use Rattle.history.proofs.TakenIn.{demand-taken-in}
+use Rattle.history.proofs.Waiting.{waiting, released-once}
+use Rattle.firmware.specs.Calls.{returned, Seen}
+use Rattle.firmware.specs.Along.{Lent, recordsOf, roomy, seenAlong, lastImage, isAccepted, countOf, overSeen}
+use Rattle.firmware.specs.Along.{actionsSeen, ordersSeen, callsSeen, lossesSeen}
+use Rattle.firmware.specs.Along.{actionsPassing, releasesSeen, releasesToSeen, heldSeen, holdsSeen, waitsSeen}
+use Rattle.firmware.specs.Starts.{limitsOf, startedWith, firstImage}
+use Rattle.firmware.proofs.Following.{call-number, call-actions, map-follows, over-follows, image-after}
+use Rattle.firmware.proofs.Following.{done-returned, count-returned}
+use Rattle.firmware.proofs.Reading.{actionsPassing-counts, held-bytes, holds-bytes, waits-bytes}
+
+-- the actions that a call wrote, counted by their bytes
+counted : (test : ℕ → Partner → Bool) (acts : List Action) (buffer : List ℕ)
+    → actionsPassing test (length acts) (written acts buffer) ≡ count (λ a. test (a .number) (a .partner)) acts
+unfolding written
+counted test acts buffer = actionsPassing-counts test acts (drop (actionSize * length acts) buffer)
+
+-- the sums of what C sees are those of the steps
+module _ (s : State) (good : sound s ≡ true) (history : List Lent) (enough : roomy history ≡ true) where
+  actions-same : actionsSeen (recordsOf history) (seenAlong (imageA2 s) history) ≡ actions s (recordsOf history)
+  actions-same =
+      over-follows (λ bytes x. countOf (x .number)) (λ s bytes o. length (o .actions))
+      (λ s bytes buffer good enough. ap countOf (call-number s good bytes buffer enough) ∙ count-returned s bytes)
+      s history good enough
+
+  accepted-same : (test : List ℕ → Bool)
+      → overSeen (λ bytes x. one (test bytes && isAccepted (x .number))) (recordsOf history) (seenAlong (imageA2 s) history)
+      ≡ summed (acceptedAs (λ s. test)) s (recordsOf history)
+  accepted-same test =
+      over-follows (λ bytes x. one (test bytes && isAccepted (x .number))) (acceptedAs (λ s. test))
+      (λ s bytes buffer good enough.
+      ap (λ z. one (test bytes && isAccepted z)) (call-number s good bytes buffer enough)
+      ∙ ap (λ b. one (test bytes && b)) (done-returned (onRecord s bytes actionRoom)))
+      s history good enough
+
+  sent-same : (test : ℕ → Partner → Bool)
+      → overSeen (λ bytes x. actionsPassing test (countOf (x .number)) (x .actions)) (recordsOf history) (seenAlong (imageA2 s) history)
+      ≡ summed (λ s bytes o. count (λ a. test (a .number) (a .partner)) (o .actions)) s (recordsOf history)
+  sent-same test =
+      over-follows (λ bytes x. actionsPassing test (countOf (x .number)) (x .actions))
+      (λ s bytes o. count (λ a. test (a .number) (a .partner)) (o .actions))
+      (λ s bytes buffer good enough.
+      ap₂ (actionsPassing test) (ap countOf (call-number s good bytes buffer enough) ∙ count-returned s bytes)
+      (call-actions s good bytes buffer enough)
+      ∙ counted test (onRecord s bytes actionRoom .actions) buffer)
+      s history good enough
+
+-- the places that C counts in the image of a sound state are those of the state
+-- promise
+pub places-seen : (s : State) (p : Partner)
+    → sound s ≡ true
+    → (heldSeen (imageA2 s) ≡ placesHeld (s .places))
+    × ((holdsSeen p (imageA2 s) ≡ 0) ↔ (holdsPlace p (s .places) ≡ false))
+    × ((1 ≤ waitsSeen p (imageA2 s)) ↔ (waits p (s .places) ≡ true))
+places-seen s p good =
+    let four = sound-facts s good .four in
+    (held-bytes s four, holds-bytes s four p, waits-bytes s four p)
+
+-- a bound in other numbers that are the same
+same-bound : (n : ℕ) {a b c d x y z w : ℕ}
+    → a ≡ x
+    → b ≡ y
+    → c ≡ z
+    → d ≡ w
+    → x ≤ perOrder n * y + perCall n * z + perLoss n * w
+    → a ≤ (3 * n + 2) * b + (n + 2) * c + n * d
+same-bound n {a} {b} {c} {d} {x} {y} {z} {w} ea eb ec ed h =
+    subst (λ k. k ≤ (3 * n + 2) * b + (n + 2) * c + n * d) (sym ea)
+    (subst (λ k. x ≤ (3 * n + 2) * k + (n + 2) * c + n * d) (sym eb)
+    (subst (λ k. x ≤ (3 * n + 2) * y + (n + 2) * k + n * d) (sym ec)
+    (subst (λ k. x ≤ (3 * n + 2) * y + (n + 2) * z + n * k) (sym ed) h)))
+
+-- a history of calls from the image that a cold start wrote, at the front of a buffer of 42 bytes or more
+module _ (lowest highest tries : ℕ)
+    (within : (lowest ≤ highest) × (highest ≤ 7) × (1 ≤ tries) × (tries ≤ 9))
+    (room : List ℕ)
+    (long : 42 ≤ length room)
+    (history : List Lent)
+    (enough : roomy history ≡ true) where
+  accepted-start : coldStart (limitsOf lowest highest tries) .code ≡ accepted
+  accepted-start = start-accepted (limitsOf lowest highest tries) .1 within
+
+  good : sound (startedWith lowest highest tries) ≡ true
+  good = cold-sound (limitsOf lowest highest tries)
+
+  first-is : firstImage lowest highest tries room ≡ imageA2 (startedWith lowest highest tries)
+  first-is =
+      let m = limitsOf lowest highest tries in
+      let s = coldStart m .state in
+      ap (take 42)
+      (ap (λ b. cond b (imagedA2 s room) room) (eq-eqb (coldStart m .code) accepted accepted-start)
+      ∙ sym (wrote-a2 s room long (imageA2 s ++ drop 42 room) (cold-sound m) refl .1))
+      ∙ take-at (imageA2 s) (drop 42 room) 42 (imageA2-length s (sound-facts s (cold-sound m) .four))
+
+  seen-is : seenAlong (firstImage lowest highest tries room) history
+      ≡ seenAlong (imageA2 (startedWith lowest highest tries)) history
+  seen-is = ap (λ image. seenAlong image history) first-is
+
+  -- demand 2: the image after a history is the image of the state after it, and reads as that state
+  -- promise
+  pub image-follows :
+      (lastImage (firstImage lowest highest tries room)
+      (seenAlong (firstImage lowest highest tries room) history)
+      ≡ imageA2 (after (startedWith lowest highest tries) (recordsOf history)))
+      × (readA2
+      (lastImage (firstImage lowest highest tries room)
+      (seenAlong (firstImage lowest highest tries room) history))
+      ≡ record { code = accepted; state = after (startedWith lowest highest tries) (recordsOf history) })
+  image-follows =
+      let s = startedWith lowest highest tries in
+      let is = ap (λ image. lastImage image (seenAlong image history)) first-is ∙ image-after s history good enough in
+      (is, ap readA2 is ∙ readA2-written (after s (recordsOf history)) (after-sound s good (recordsOf history)))
+
+  -- the numbers returned are those of the steps
+  -- promise
+  pub numbers-follow :
+      map (λ (x : Seen). x .number) (seenAlong (firstImage lowest highest tries room) history)
+      ≡ map (λ (o : Outcome). cond (eqb (o .code) 0) (pos (length (o .actions))) (negℤ (pos (o .code))))
+      (trace (startedWith lowest highest tries) (recordsOf history))
+  numbers-follow =
+      ap (map (λ (x : Seen). x .number)) seen-is
+      ∙ map-follows (λ (x : Seen). x .number) returned (λ s bytes buffer good enough. call-number s good bytes buffer enough)
+      (startedWith lowest highest tries)
+      history
+      good
+      enough
+
+  -- and the bytes at the front of each buffer, five for each action of the number returned, are those of the step's actions
+  -- promise
+  pub bytes-follow :
+      map (λ (x : Seen). take (5 * countOf (x .number)) (x .actions))
+      (seenAlong (firstImage lowest highest tries room) history)
+      ≡ map (λ (o : Outcome). actionBytes (o .actions))
+      (trace (startedWith lowest highest tries) (recordsOf history))
+  bytes-follow =
+      ap (map (λ (x : Seen). take (5 * countOf (x .number)) (x .actions))) seen-is
+      ∙ map-follows (λ (x : Seen). take (5 * countOf (x .number)) (x .actions)) (λ o. actionBytes (o .actions))
+      (λ s bytes buffer good enough.
+      ap₂ (λ n l. take (5 * n) l)
+      (ap countOf (call-number s good bytes buffer enough) ∙ count-returned s bytes)
+      (call-actions s good bytes buffer enough)
+      ∙ written-front (onRecord s bytes actionRoom .actions) buffer)
+      (startedWith lowest highest tries)
+      history
+      good
+      enough
+
+  -- what C counts are the sums over the steps
+  -- promise
+  pub sums-follow :
+      (actionsSeen (recordsOf history) (seenAlong (firstImage lowest highest tries room) history)
+      ≡ actions (startedWith lowest highest tries) (recordsOf history))
+      × (ordersSeen (recordsOf history) (seenAlong (firstImage lowest highest tries room) history)
+      ≡ orders (startedWith lowest highest tries) (recordsOf history))
+      × (callsSeen (recordsOf history) (seenAlong (firstImage lowest highest tries room) history)
+      ≡ calls (startedWith lowest highest tries) (recordsOf history))
+      × (lossesSeen (recordsOf history) (seenAlong (firstImage lowest highest tries room) history)
+      ≡ losses (startedWith lowest highest tries) (recordsOf history))
+      × (releasesSeen (recordsOf history) (seenAlong (firstImage lowest highest tries room) history)
+      ≡ releases (startedWith lowest highest tries) (recordsOf history))
+  sums-follow =
+      let s = startedWith lowest highest tries in
+      let records = recordsOf history in (
+        ap (actionsSeen records) seen-is ∙ actions-same s good history enough,
+        ap (ordersSeen records) seen-is ∙ accepted-same s good history enough isOrder,
+        ap (callsSeen records) seen-is ∙ accepted-same s good history enough isCall,
+        ap (lossesSeen records) seen-is ∙ accepted-same s good history enough isLoss,
+        ap (releasesSeen records) seen-is ∙ sent-same s good history enough (λ number p. eqb number release),
+      )
+
+  -- demand 3: "at most" 3n + 2 actions "for each order accepted", n + 2 "for each accepted call from an RBC", n "for each accepted
+  -- loss", all counted from the numbers returned
+  -- promise
+  pub seen-bound :
+      actionsSeen (recordsOf history) (seenAlong (firstImage lowest highest tries room) history)
+      ≤ (3 * tries + 2)
+      * ordersSeen (recordsOf history) (seenAlong (firstImage lowest highest tries room) history)
+      + (tries + 2) * callsSeen (recordsOf history) (seenAlong (firstImage lowest highest tries room) history)
+      + tries * lossesSeen (recordsOf history) (seenAlong (firstImage lowest highest tries room) history)
+  seen-bound =
+      let same = sums-follow in
+      same-bound tries (same .0) (same .1) (same .2) (same .3)
+      (bound (limitsOf lowest highest tries) accepted-start (recordsOf history))
+
+  -- "Partners taken in equal releases plus places held": the releases counted from the bytes of the buffers, the places from those of
+  -- the last image
+  -- promise
+  pub seen-taken-in :
+      ordersSeen (recordsOf history) (seenAlong (firstImage lowest highest tries room) history)
+      + callsSeen (recordsOf history) (seenAlong (firstImage lowest highest tries room) history)
+      ≡ releasesSeen (recordsOf history) (seenAlong (firstImage lowest highest tries room) history)
+      + heldSeen
+      (lastImage (firstImage lowest highest tries room)
+      (seenAlong (firstImage lowest highest tries room) history))
+  seen-taken-in =
+      let same = sums-follow in
+      let s = startedWith lowest highest tries in
+      let last = after s (recordsOf history) in
+      ap₂ _+_ (same .1) (same .2)
+      ∙ demand-taken-in (limitsOf lowest highest tries) accepted-start (recordsOf history)
+      ∙ sym
+      (ap₂ _+_ (same .4)
+      (ap heldSeen (image-follows .0) ∙ held-bytes last (sound-facts last (after-sound s good (recordsOf history)) .four)))
+
+-- "and histories are shown that reach" the bounds: for every n from 1 to 9, X from 1 to 2, and any numbers of orders, calls and losses
+-- promise
+pub seen-reached : (n a b c : ℕ)
+    → 1 ≤ n
+    → n ≤ 9
+    → (c ≡ 0) ⊎ (0 < a + b)
+    → (room : List ℕ)
+    → 42 ≤ length room
+    → (history : List Lent)
+    → roomy history ≡ true
+    → recordsOf history ≡ reaching n a b c
+    → (actionsSeen (recordsOf history) (seenAlong (firstImage 1 2 n room) history) ≡ (3 * n + 2) * a + (n + 2) * b + n * c)
+    × (ordersSeen (recordsOf history) (seenAlong (firstImage 1 2 n room) history) ≡ a)
+    × (callsSeen (recordsOf history) (seenAlong (firstImage 1 2 n room) history) ≡ b)
+    × (lossesSeen (recordsOf history) (seenAlong (firstImage 1 2 n room) history) ≡ c)
+unfolding sumsOf
+seen-reached n a b c some-try most h room long history enough is =
+    let same = sums-follow 1 2 n (omega arith, omega arith, some-try, most) room long history enough in
+    let sums = reached n some-try most a b c h in (
+      same .0 ∙ ap (actions (startedWith 1 2 n)) is ∙ ap (λ (x : Sums). x .actions) sums,
+      same .1 ∙ ap (orders (startedWith 1 2 n)) is ∙ ap (λ (x : Sums). x .orders) sums,
+      same .2 ∙ ap (calls (startedWith 1 2 n)) is ∙ ap (λ (x : Sums). x .calls) sums,
+      same .3 ∙ ap (losses (startedWith 1 2 n)) is ∙ ap (λ (x : Sums). x .losses) sums,
+    )
+
+-- "A partner that waits (any phase but Open) and is from then on named by nothing but timeouts holds no place after its" n-th one, n
+-- being the number in the image, "whatever comes for others in between": of every image that reads, as those after a history do
+module _ (image : List ℕ)
+    (read : readA2 image .code ≡ accepted)
+    (p : Partner)
+    (waits-now : 1 ≤ waitsSeen p image)
+    (history : List Lent)
+    (enough : roomy history ≡ true)
+    (quiet : silent p (readA2 image .state) (recordsOf history) ≡ true)
+    (timed-out : byte image 37 ≤ timeouts p (recordsOf history)) where
+  image-good : sound (readA2 image .state) ≡ true
+  image-good = writtenA2-read image read .0
+
+  own : imageA2 (readA2 image .state) ≡ image
+  own = writtenA2-read image read .1
+
+  four : length (readA2 image .state .places) ≡ placeCount
+  four = sound-facts (readA2 image .state) image-good .four
+
+  waits-then : waits p (readA2 image .state .places) ≡ true
+  waits-then = waits-bytes (readA2 image .state) four p .0 (subst (λ b. 1 ≤ waitsSeen p b) (sym own) waits-now)
+
+  many : timeoutsToRelease (readA2 image .state .limits .tries) ≤ timeouts p (recordsOf history)
+  many =
+      let in-image = imageA2-tries (readA2 image .state) four in
+      let here = ap (λ b. byte b 37) own in
+      omega (arith, in-image, here, timed-out)
+
+  -- promise
+  pub seen-waiting : holdsSeen p (lastImage image (seenAlong image history)) ≡ 0
+  seen-waiting =
+      let last = after (readA2 image .state) (recordsOf history) in
+      ap (holdsSeen p)
+      (ap (λ b. lastImage b (seenAlong b history)) (sym own) ∙ image-after (readA2 image .state) history image-good enough)
+      ∙ holds-bytes last (sound-facts last (after-sound (readA2 image .state) image-good (recordsOf history)) .four) p .1
+      (waiting (readA2 image .state) image-good p waits-then (recordsOf history) quiet many)
+
+  -- and it was released once, by an action 22 to it in the bytes of a buffer
+  -- promise
+  pub seen-released-once : releasesToSeen p (recordsOf history) (seenAlong image history) ≡ 1
+  seen-released-once =
+      ap (λ b. releasesToSeen p (recordsOf history) (seenAlong b history)) (sym own)
+      ∙ sent-same (readA2 image .state) image-good history enough (λ number q. eqb number release && samePartner p q)
+      ∙ released-once (readA2 image .state) image-good p waits-then (recordsOf history) quiet many

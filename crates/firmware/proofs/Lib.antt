@@ -1,0 +1,7 @@
+pub mod Agreed
+pub mod Numbers
+pub mod Calling
+pub mod Starting
+pub mod Following
+pub mod Reading
+pub mod OneAnswer
