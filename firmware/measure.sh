@@ -6,6 +6,7 @@
 set -eu
 cd "$(dirname "$0")"
 . ./tools.sh
+. ./stack.sh
 model=../independent-model
 need "${prefix}objdump" "binutils for x86-64"
 need make "builds bench and classes of independent-model, which make the logs"
@@ -44,42 +45,6 @@ count_all() {
     cmp "$t/library" "$t/model"
 }
 
-# The deepest stack of a function by its frames, from the disassembly of the linked program: the return address, each push, each
-# `sub $N,%rsp` and what is used below the stack pointer (the red zone), summed along the deepest row of calls. Fails where the stack
-# pointer is moved in another way, where a call cannot be followed, or where the row has no end.
-stack() {
-    awk -v of="<$1>" '
-        function hex(x,  v, i) {
-            v = 0
-            for (i = 1; i <= length(x); i++) v = v * 16 + index("0123456789abcdef", substr(x, i, 1)) - 1
-            return v
-        }
-        function fail(text) { print text >"/dev/stderr"; failed = 1; exit 1 }
-        function deep(f, row,  d, most, k, calls) {
-            if (row > 40) fail("the calls have no end at " f)
-            if (!(f in frame)) fail("no frame of " f)
-            if (f in odd) fail(f ": " odd[f])
-            most = below[f]
-            k = split(called[f], calls, "\n")
-            for (; k > 0; k--) if (calls[k] != "") { d = deep(calls[k], row + 1); if (d > most) most = d }
-            return 8 + frame[f] + most
-        }
-        /^[0-9a-f]+ <.*>:$/ { f = substr($0, index($0, "<")); sub(/:$/, "", f); frame[f] += 0; next }
-        $2 ~ /^pushq?$/ { frame[f] += 8; next }
-        $2 ~ /^subq?$/ && $3 ~ /^\$0x[0-9a-f]+,%rsp$/ { x = $3; sub(/^\$0x/, "", x); sub(/,.*/, "", x); frame[f] += hex(x); next }
-        $2 ~ /^addq?$/ && $3 ~ /^\$0x[0-9a-f]+,%rsp$/ { next }
-        $2 !~ /^(cmp|test)/ && $NF ~ /,%rsp$/ { odd[f] = $0 }
-        $3 ~ /-0x[0-9a-f]+\(%rsp/ {
-            x = $3
-            sub(/^.*-0x/, "", x)
-            sub(/\(.*/, "", x)
-            if (hex(x) > below[f]) below[f] = hex(x)
-        }
-        $2 ~ /^callq?$/ && $3 ~ /^\*/ { odd[f] = $0 }
-        $2 ~ /^(callq?|j[a-z]+)$/ && match($0, /<[^+]*>$/) { g = substr($0, RSTART); if (g != f) called[f] = called[f] "\n" g }
-        END { if (!failed) { d = deep(of, 1); if (!failed) print d } exit failed }' "$t/code"
-}
-
 "${prefix}objdump" -d --no-show-raw-insn "$t/count_calls" >"$t/code"
 "${prefix}size" -A "$archive" | awk '
     $1 ~ /^\.text/ { code += $2 }
@@ -87,7 +52,7 @@ stack() {
     $1 ~ /^\.(data|bss|tdata|tbss)/ { data += $2 }
     END { printf "| the library | bytes |\n|---|---|\n| code | %d |\n| constants | %d |\n| writable data | %d |\n", code, constants, data }'
 for function in resheftal_step resheftal_cold_start; do
-    deepest=$(stack $function)
+    deepest=$(stack "$t/code" $function)
     echo "| deepest stack of $function | $deepest |"
 done
 

@@ -1,5 +1,6 @@
-# Sourced by the scripts of this folder, which stand in it: finds the tools for x86-64, for which the library is compiled, and the
-# library. Sets gcc, prefix (of nm, size and objdump), archive; run runs a program, through qemu-x86_64 where the processor is no x86-64.
+# Sourced by scripts that stand in a folder of the root, this one or another: finds the tools for x86-64, for which the library is
+# compiled, and the library. Sets gcc, prefix (of nm, size and objdump), archive; run runs a program, through qemu-x86_64 where the
+# processor is no x86-64.
 archive=../target/staticlib/libfirmware.a
 
 need() {

@@ -30,7 +30,7 @@ use wire::refusal::ACCEPTED;
 const VERSIONS_OF_X: u8 = 16;
 
 // The level that is NTC.
-const LEVEL_NTC: u32 = 4;
+const LEVEL_NTC: u64 = 4;
 
 fn partner_words(partner: Partner) {
     if partner.is_rbc() {
@@ -50,12 +50,12 @@ fn ordered_words(partner: Partner) {
     }
 }
 
-pub(crate) fn level_words(level: u32, manual: bool) {
+pub(crate) fn level_words(level: u64, manual: bool) {
     say(b"level ");
     if level == LEVEL_NTC {
         say(b"NTC");
     } else {
-        number(level as u64);
+        number(level);
     }
     if manual {
         say(b", manual");

@@ -105,7 +105,7 @@ pub(crate) fn cause_words(cause: Cause) {
     }
 }
 
-pub(crate) fn mission_words(mission: u32) {
+pub(crate) fn mission_words(mission: u64) {
     match mission {
         0 => say(b"ended"),
         1 => say(b"starting"),

@@ -25,7 +25,7 @@ use unit::state::Marks;
 use unit::state::State;
 use unit::state::Train;
 use wire::byte::byte_at;
-use wire::byte::word;
+use wire::byte::long;
 use wire::refusal::ACCEPTED;
 use wire::refusal::NOT_SOUND;
 use wire::refusal::UNKNOWN_KIND;
@@ -87,8 +87,8 @@ pub(crate) fn train_in(s: &[u8]) -> Train
     ensures { λ r. ⌜ r ≡ stateIn (now (s .entry)) .train ⌝ }
 {
     Train {
-        level: word(byte_at(s, 2)),
-        mission: word(byte_at(s, 3)),
+        level: long(byte_at(s, 2)),
+        mission: long(byte_at(s, 3)),
     }
 }
 

@@ -38,9 +38,9 @@ use wire::join::or;
 use wire::refusal::ACCEPTED;
 use wire::refusal::NOT_SOUND;
 
-const HIGHEST_LEVEL: u32 = record::read::HIGHEST_LEVEL as u32;
+const HIGHEST_LEVEL: u64 = record::read::HIGHEST_LEVEL as u64;
 
-const HIGHEST_MISSION: u32 = record::read::HIGHEST_MISSION as u32;
+const HIGHEST_MISSION: u64 = record::read::HIGHEST_MISSION as u64;
 
 // The most fields that can change.
 pub const FIELDS: usize = 11;
@@ -53,7 +53,7 @@ pub struct Rescued {
 }
 
 // A number in its range, or 0.
-fn within(most: u32, n: u32) -> u32
+fn within(most: u64, n: u64) -> u64
     ensures { λ r. ⌜ r ≡ within most n ⌝ }
 {
     if n <= most { n } else { 0 }

@@ -34,7 +34,7 @@ pub struct Stored {
 }
 
 // A small number's byte.
-fn narrow(x: u32) -> u8
+fn narrow(x: u64) -> u8
     requires { ⌜ x < 256 ⌝ }
     ensures { λ r. ⌜ r ≡ x ⌝ }
 {

@@ -1,26 +1,29 @@
--- The table's cells as the code takes them: by number, and by what its tests showed.
--- Proves: cell-none, play-at, turn-by, judged-by, again-more, again-last, closedBy-known.
+-- The table's cells as the code takes them: by number, and by what its tests showed; and so what is in its range.
+-- Proves: cell-none, played-at, turned-by, judged-by, again-more, again-last, closedBy-known, phaseOk-by, holdingOk-by.
 use mathlib.Core.Path.{_≡_, refl, sym, ap, ap₂, _∙_}
-use mathlib.Core.Bool.{Bool, cond, _&&_}
+use mathlib.Core.Bool.{Bool, true, cond, _&&_}
 use Prim.Native.Nat.{ℕ, zero, suc, _+_, _/_, _≤_, _<_}
 use native.Mathlib.Omega.{arith}
 use lib.Dec.{leb}
 use lib.ListN.{length, List·getD-eq-default}
 use borrow.Author.Tests.{lt-ltb, le-ltb}
+use Rattle.record.specs.Partners.{namedOk}
 use Rattle.record.specs.declared.partner.Partner.{Partner}
 use Rattle.record.specs.declared.event.PartnerEvent.{PartnerEvent}
-use Rattle.place.specs.Places.{tries}
-use Rattle.place.specs.Table.{Cell, refuse, cell, judged, withTries, oneMore, again, play, turn, versionOf, established, incompatible, terminate, firstTry, closing, closes}
-use Rattle.place.proofs.Holdings.{holdingClosedBy}
-use Rattle.place.specs.Cells.{legend, cellOf}
+use Rattle.place.specs.Places.{tries, triesOk, phaseOk, fits, heldPhase}
+use Rattle.place.specs.Table.{Cell, refuse, cell, judged, withTries, oneMore, again, play, turn, versionOf, established, incompatible, terminate, firstTry, closing, closes, turnedTo}
+use Rattle.place.proofs.Holdings.{holdingOk, holdingClosedBy}
+use Rattle.place.specs.Cells.{legend, cellOf, isOpen}
 use Rattle.place.specs.declared.phase.Phase.{Phase}
-use Rattle.place.specs.declared.phase.Phase.the-variants.{Open, Ending}
+use Rattle.place.specs.declared.phase.Phase.the-variants.{Connecting, Contacting, Open, Lost, Ending}
 use Rattle.place.specs.declared.place.Direction.{Direction}
 use Rattle.place.specs.declared.place.Holding.{Holding}
 use Rattle.place.specs.declared.place.Holding.the-variants.{Held}
+use Rattle.place.specs.declared.place.Place.{Place}
 use Rattle.place.specs.declared.limits.Limits.{Limits}
 use Rattle.place.specs.declared.turn.Turn.{Turn}
 use Rattle.place.specs.declared.turn.Turn.the-variants.{Stays, Released, Sends, SendsBoth}
+use Rattle.place.specs.declared.turn.Turned.{Turned}
 use Rattle.place.specs.declared.turn.Closing.{Closing}
 
 -- no cell below 1 or above 9 but the refusal
@@ -28,19 +31,24 @@ pub cell-none : (choice : ℕ) → (1 ≤ choice → length legend ≤ choice) �
 cell-none zero above = refl
 cell-none (suc choice) above = List·getD-eq-default legend refuse (above (omega arith))
 
--- what the cell of a known number makes of a phase
-pub play-at : (l : Limits) (ph : Phase) (v choice : ℕ) (c : Cell) (r : Turn)
+-- what the cell of a known number makes of a place in its phase
+pub played-at : (place : Place) (l : Limits) (ph : Phase) (v choice : ℕ) (c : Cell) (t : Turn) (r : Turned)
     → cellOf choice ≡ c
-    → r ≡ play l ph v c
-    → r ≡ play l ph v (cellOf choice)
-play-at l ph v choice c r e h = h ∙ ap (play l ph v) (sym e)
+    → t ≡ play l ph v c
+    → r ≡ turnedTo place t
+    → r ≡ turnedTo place (play l ph v (cellOf choice))
+played-at place l ph v choice c t r e is made = made ∙ ap (turnedTo place) (is ∙ ap (play l ph v) (sym e))
 
-pub turn-by : (l : Limits) (ph : Phase) (e : PartnerEvent) (v : ℕ) (c : Cell)
+-- the chosen cell's turn is the event's
+pub turned-by : (l : Limits) (place : Place) (e : PartnerEvent) (ph : Phase) (v : ℕ) (c : Cell) (r : Turned)
+    → ph ≡ heldPhase place
     → v ≡ versionOf e
     → c ≡ cell ph e
-    → play l ph v c ≡ turn l ph e
+    → r ≡ turnedTo place (play l ph v c)
+    → r ≡ turnedTo place (turn l (heldPhase place) e)
 unfolding turn
-turn-by l ph e v c version same = ap₂ (play l ph) version same
+turned-by l place e ph v c r phase version same made =
+    made ∙ ap (turnedTo place) (ap₂ (play l ph) version same ∙ ap (λ q. turn l q e) phase)
 
 pub judged-by : (l : Limits) (v x : ℕ) (b t : Bool)
     → x ≡ v / 16
@@ -68,3 +76,25 @@ pub closedBy-known : (which : Closing) (k : Holding) (d : Direction) (ph : Phase
     → cond t (closing ph) Stays ≡ holdingClosedBy which k
 closedBy-known which k d ph p b t held test known =
     ap (λ u. cond u (closing ph) Stays) (sym known ∙ test) ∙ sym (ap (holdingClosedBy which) held)
+
+-- an open phase is in its range, another where its tries are
+pub phaseOk-by : (l : Limits) (ph : Phase) (open-phase : Bool)
+    → isOpen ph ≡ open-phase
+    → cond open-phase true (triesOk l (tries ph)) ≡ phaseOk l ph
+phaseOk-by l ph open-phase shown = ap (λ b. cond b true (triesOk l (tries ph))) (sym shown) ∙ by ph
+  where
+    by : (ph : Phase) → cond (isOpen ph) true (triesOk l (tries ph)) ≡ phaseOk l ph
+    by (Connecting t) = refl
+    by (Contacting t) = refl
+    by Open = refl
+    by (Lost t) = refl
+    by (Ending t) = refl
+
+-- a held place is sound by itself where its partner may have one, its phase is in range and its direction fits
+pub holdingOk-by : (l : Limits) (k : Holding) (d : Direction) (ph : Phase) (p : Partner) (named ranged : Bool)
+    → k ≡ Held d ph p
+    → namedOk p ≡ named
+    → phaseOk l ph ≡ ranged
+    → (named && (ranged && fits d ph p)) ≡ holdingOk l k
+holdingOk-by l k d ph p named ranged held asked tested =
+    ap₂ (λ a b. a && (b && fits d ph p)) (sym asked) (sym tested) ∙ sym (ap (holdingOk l) held)

@@ -1,11 +1,10 @@
 -- No second answer satisfies the contract of a public function: a line for each of this crate's, over the contract as the checker names it.
--- Proves: phase-number-once, phase-tries-once, phase-turn-once, direction-number-once, place-free-once, place-held-once,
+-- Proves: phase-number-once, phase-tries-once, direction-number-once, place-free-once, place-held-once,
 -- place-is-free-once, place-partner-once, place-held-phase-once, place-holds-once, place-is-sound-once, place-closed-by-once,
--- place-after-once, turn-is-taken-once.
+-- place-after-once, place-turn-once, turn-is-taken-once.
 use mathlib.Core.Path.{_≡_, sym, _∙_}
 use Rattle.place.proofs.phase.Phase.number.Reads as phase-number
 use Rattle.place.proofs.phase.Phase.tries.Reads as phase-tries
-use Rattle.place.proofs.phase.Phase.turn.Reads as phase-turn
 use Rattle.place.proofs.place.Direction.number.Reads as direction-number
 use Rattle.place.proofs.place.Place.free.Reads as place-free
 use Rattle.place.proofs.place.Place.held.Reads as place-held
@@ -16,6 +15,7 @@ use Rattle.place.proofs.place.Place.holds.Reads as place-holds
 use Rattle.place.proofs.place.Place.is_sound.Reads as place-is-sound
 use Rattle.place.proofs.place.Place.closed_by.Reads as place-closed-by
 use Rattle.place.proofs.place.Place.after.Reads as place-after
+use Rattle.place.proofs.place.Place.turn.Reads as place-turn
 use Rattle.place.proofs.turn.Turn.is_taken.Reads as turn-is-taken
 
 pub phase-number-once : (κ : _) (self : _) (r₁ : _) (r₂ : _)
@@ -29,12 +29,6 @@ pub phase-tries-once : (κ : _) (self : _) (r₁ : _) (r₂ : _)
     → phase-tries.Post κ (self, tt) r₂ (self, tt)
     → r₁ ≡ r₂
 phase-tries-once κ self r₁ r₂ p q = p ∙ sym q
-
-pub phase-turn-once : (κ : _) (self : _) (event : _) (limits : _) (r₁ : _) (r₂ : _)
-    → phase-turn.Post κ (self, (event, (limits, tt))) r₁ (self, (event, (limits, tt)))
-    → phase-turn.Post κ (self, (event, (limits, tt))) r₂ (self, (event, (limits, tt)))
-    → r₁ ≡ r₂
-phase-turn-once κ self event limits r₁ r₂ p q = p ∙ sym q
 
 pub direction-number-once : (κ : _) (self : _) (r₁ : _) (r₂ : _)
     → direction-number.Post κ (self, tt) r₁ (self, tt)
@@ -95,6 +89,12 @@ pub place-after-once : (κ : _) (self : _) (turn : _) (r₁ : _) (r₂ : _)
     → place-after.Post κ (self, (turn, tt)) r₂ (self, (turn, tt))
     → r₁ ≡ r₂
 place-after-once κ self turn r₁ r₂ p q = p ∙ sym q
+
+pub place-turn-once : (κ : _) (self : _) (event : _) (limits : _) (r₁ : _) (r₂ : _)
+    → place-turn.Post κ (self, (event, (limits, tt))) r₁ (self, (event, (limits, tt)))
+    → place-turn.Post κ (self, (event, (limits, tt))) r₂ (self, (event, (limits, tt)))
+    → r₁ ≡ r₂
+place-turn-once κ self event limits r₁ r₂ p q = p ∙ sym q
 
 pub turn-is-taken-once : (κ : _) (self : _) (r₁ : _) (r₂ : _)
     → turn-is-taken.Post κ (self, tt) r₁ (self, tt)

@@ -1,7 +1,7 @@
 -- Document 01, "Rules of one step", the part on one place: the phase table, closing, judging a version.
 -- Defines: request, release, incompatible, initiate, terminate, established, Cell, table, column, cell, firstTry,
 -- closing, xOf, supported, judged, withTries, oneMore, again, versionOf, play, turn, onTurn, takes, numbers, inPhase, placeAfter,
--- inSession, notEnding, closes, closedBy.
+-- inSession, notEnding, closes, closedBy, turnedTo.
 use Prim.Native.Nat.{ℕ, _+_, _/_}
 use mathlib.Core.Bool.{Bool, true, false, cond, _&&_}
 use mathlib.Core.List.{List, [], _∷_}
@@ -19,6 +19,7 @@ use Rattle.place.specs.declared.place.Place.{Place}
 use Rattle.place.specs.declared.limits.Limits.{Limits}
 use Rattle.place.specs.declared.turn.Turn.{Turn}
 use Rattle.place.specs.declared.turn.Turn.the-variants.{Stays, Released, Becomes, Sends, SendsBoth}
+use Rattle.place.specs.declared.turn.Turned.{Turned}
 use Rattle.place.specs.declared.turn.Closing.{Closing}
 use Rattle.place.specs.declared.turn.Closing.the-variants.{Every, Sessions, Nothing}
 
@@ -190,3 +191,8 @@ closes Nothing ph p = false
 -- what a closing makes of a place
 abbrev pub closedBy : Closing → Place → Turn
 closedBy which place = onHolding Stays (λ d ph p. cond (closes which ph p) (closing ph) Stays) (place .holding)
+
+-- a turn as the code hands it on: whether it is taken, the numbers of its actions with 0 for none, and the place after it
+unfoldable pub turnedTo : Place → Turn → Turned
+turnedTo place t =
+    record { taken = takes t; first = getD (numbers t) 0 0; second = getD (numbers t) 1 0; place = placeAfter place t }

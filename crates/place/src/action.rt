@@ -10,3 +10,6 @@ pub const INITIATE: u8 = 155;
 pub const TERMINATE: u8 = 156;
 
 pub const ESTABLISHED: u8 = 159;
+
+// The number that stands where there is no action.
+pub const NO_ACTION: u8 = 0;

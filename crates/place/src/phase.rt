@@ -2,7 +2,7 @@
 ghost use mathlib.Core.Path.{_≡_};
 ghost use Rattle.place.specs.Places.{phaseNumber, tries, triesOk, phaseOk, fitsIncoming};
 ghost use Rattle.place.specs.Table.{withTries, inSession, notEnding};
-ghost use Rattle.place.specs.Cells.{rowNumber};
+ghost use Rattle.place.specs.Cells.{rowNumber, isOpen};
 use crate::limits::Limits;
 use wire::join::and;
 
@@ -104,16 +104,27 @@ impl Phase {
         }
     }
 
+    // Whether it is Open, which has no tries.
+    pub(crate) fn is_open(self) -> bool
+        ensures { λ r. ⌜ r ≡ isOpen self ⌝ }
+    {
+        match self {
+            Phase::Connecting(_) => false,
+            Phase::Contacting(_) => false,
+            Phase::Open => true,
+            Phase::Lost(_) => false,
+            Phase::Ending(_) => false,
+        }
+    }
+
     // Whether the tries used are in their range.
     pub(crate) fn in_range(self, limits: Limits) -> bool
         ensures { λ r. ⌜ r ≡ phaseOk limits self ⌝ }
     {
-        match self {
-            Phase::Connecting(t) => tried(t, limits),
-            Phase::Contacting(t) => tried(t, limits),
-            Phase::Open => true,
-            Phase::Lost(t) => tried(t, limits),
-            Phase::Ending(t) => tried(t, limits),
+        if self.is_open() {
+            true
+        } else {
+            tried(self.tries(), limits)
         }
     }
 

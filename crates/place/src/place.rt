@@ -165,10 +165,15 @@ impl Place {
                 phase,
                 partner,
             } => {
-                and(
-                    partner.can_be_named(),
-                    and(phase.in_range(limits), direction.fits(phase, partner)),
-                )
+                if partner.can_be_named() {
+                    if phase.in_range(limits) {
+                        direction.fits(phase, partner)
+                    } else {
+                        false
+                    }
+                } else {
+                    false
+                }
             }
         }
     }

@@ -1,15 +1,20 @@
 // Turns of a place: what an event or a closing makes of it.
 ghost use mathlib.Core.Path.{_≡_};
-ghost use Rattle.place.specs.Table.{cell, closing, column, judged, again, play, turn, versionOf, takes};
+ghost use lib.ListN.{getD};
+ghost use Rattle.place.specs.Places.{heldPhase};
+ghost use Rattle.place.specs.Table.{cell, closing, column, judged, again, numbers, play, turn, turnedTo, versionOf, takes};
 ghost use Rattle.place.specs.Cells.{cellOf};
 use crate::action::ESTABLISHED;
 use crate::action::INCOMPATIBLE;
 use crate::action::INITIATE;
+use crate::action::NO_ACTION;
+use crate::action::RELEASE;
 use crate::action::REQUEST;
 use crate::action::TERMINATE;
 use crate::limits::Limits;
 use crate::phase::FIRST_TRY;
 use crate::phase::Phase;
+use crate::place::Place;
 use crate::table::CLOSE;
 use crate::table::CONTACT;
 use crate::table::FREE;
@@ -34,6 +39,14 @@ pub enum Turn {
     Becomes(Phase),
     Sends { number: u8, phase: Phase },
     SendsBoth { first: u8, second: u8, phase: Phase },
+}
+
+// A place after a turn: whether the event was taken, the numbers of the turn's actions, 0 for none, and the place.
+pub struct Turned {
+    pub taken: bool,
+    pub first: u8,
+    pub second: u8,
+    pub place: Place,
 }
 
 // Which places a closing is for: every one, the sessions that an RBC's order ends, or none.
@@ -61,6 +74,45 @@ impl Turn {
                 second: _,
                 phase: _,
             } => true,
+        }
+    }
+}
+
+impl Turn {
+    // The number of its first action; 0 where it has none.
+    fn first_number(self) -> u8
+        ensures { λ r. ⌜ r ≡ getD (numbers self) 0 0 ⌝ }
+    {
+        match self {
+            Turn::Stays => NO_ACTION,
+            Turn::Released => RELEASE,
+            Turn::Becomes(_) => NO_ACTION,
+            Turn::Sends { number, phase: _ } => number,
+            Turn::SendsBoth {
+                first,
+                second: _,
+                phase: _,
+            } => first,
+        }
+    }
+
+    // The number of its second action; 0 where it has none.
+    fn second_number(self) -> u8
+        ensures { λ r. ⌜ r ≡ getD (numbers self) 1 0 ⌝ }
+    {
+        match self {
+            Turn::Stays => NO_ACTION,
+            Turn::Released => NO_ACTION,
+            Turn::Becomes(_) => NO_ACTION,
+            Turn::Sends {
+                number: _,
+                phase: _,
+            } => NO_ACTION,
+            Turn::SendsBoth {
+                first: _,
+                second,
+                phase: _,
+            } => second,
         }
     }
 }
@@ -149,35 +201,50 @@ impl Phase {
     {
         cell_at(self.row(), column_of(event))
     }
+}
 
-    // What a cell makes of this phase.
-    fn play(self, choice: u8, version: u8, limits: Limits) -> Turn
-        ensures { λ r. ⌜ r ≡ play limits self version (cellOf choice) ⌝ }
+impl Place {
+    // A turn of this place. It is made of each turn by itself, before the ways meet: the compiled code then has no turn to take apart.
+    fn make(self, turn: Turn) -> Turned
+        ensures { λ r. ⌜ r ≡ turnedTo self turn ⌝ }
     {
-        match choice {
-            CLOSE => self.closing(),
-            FREE => Turn::Released,
-            CONTACT => Turn::Sends {
-                number: INITIATE,
-                phase: Phase::Contacting(FIRST_TRY),
-            },
-            LOSE => Turn::Sends {
-                number: REQUEST,
-                phase: Phase::Lost(FIRST_TRY),
-            },
-            REOPEN => Turn::Becomes(Phase::Open),
-            REQUEST_AGAIN => self.again(REQUEST, limits),
-            INITIATE_AGAIN => self.again(INITIATE, limits),
-            TERMINATE_AGAIN => self.again(TERMINATE, limits),
-            JUDGE => judge(version, limits),
-            _ => Turn::Stays,
+        Turned {
+            taken: turn.is_taken(),
+            first: turn.first_number(),
+            second: turn.second_number(),
+            place: self.after(turn),
         }
     }
 
-    // What an event makes of this phase.
-    pub fn turn(self, event: PartnerEvent, limits: Limits) -> Turn
-        ensures { λ r. ⌜ r ≡ turn limits self event ⌝ }
+    // What a cell makes of this place in its phase.
+    fn play(self, phase: Phase, choice: u8, version: u8, limits: Limits) -> Turned
+        ensures { λ r. ⌜ r ≡ turnedTo self (play limits phase version (cellOf choice)) ⌝ }
     {
-        self.play(self.choice(event), version_of(event), limits)
+        match choice {
+            CLOSE => self.make(phase.closing()),
+            FREE => self.make(Turn::Released),
+            CONTACT => self.make(Turn::Sends {
+                number: INITIATE,
+                phase: Phase::Contacting(FIRST_TRY),
+            }),
+            LOSE => self.make(Turn::Sends {
+                number: REQUEST,
+                phase: Phase::Lost(FIRST_TRY),
+            }),
+            REOPEN => self.make(Turn::Becomes(Phase::Open)),
+            REQUEST_AGAIN => self.make(phase.again(REQUEST, limits)),
+            INITIATE_AGAIN => self.make(phase.again(INITIATE, limits)),
+            TERMINATE_AGAIN => self.make(phase.again(TERMINATE, limits)),
+            JUDGE => self.make(judge(version, limits)),
+            _ => self.make(Turn::Stays),
+        }
+    }
+
+    // What an event that names its partner makes of this place.
+    pub fn turn(self, event: PartnerEvent, limits: Limits) -> Turned
+        ensures { λ r. ⌜ r ≡ turnedTo self (turn limits (heldPhase self) event) ⌝ }
+    {
+        let phase = self.held_phase();
+        self.play(phase, phase.choice(event), version_of(event), limits)
     }
 }

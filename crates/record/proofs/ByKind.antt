@@ -1,14 +1,17 @@
 -- The tables of causes and kinds outside their entries, and reading by the first byte.
--- Proves: cause-first, up, body-none, fields-at, long-at, read-empty, read-unknown, read-length, read-fields.
+-- Proves: cause-first, up, body-none, length-none, length-some, fields-at, long-at, read-empty, read-unknown, read-length,
+-- read-fields.
 use mathlib.Core.Path.{_≡_, refl, sym, ap, subst, _∙_}
 use mathlib.Core.Bool.{cond}
 use mathlib.Core.List.{List, [], _∷_}
-use Prim.Native.Nat.{ℕ, zero, suc, _≤_}
+use Prim.Native.Nat.{ℕ, zero, suc, _≤_, _<_}
 use native.Mathlib.Omega.{arith}
 use lib.Dec.{eqb}
-use lib.ListN.{length, List·getD-eq-default}
+use lib.ListN.{length, getD, drop, List·getD-eq-default}
+use borrow.Author.Needs.{needs}
 use borrow.Author.Tests.{le-ltb, lt-ltb, eq-eqb, ne-eqb}
-use Rattle.record.specs.Records.{causeOf, bodies, noBody, bodyOf, known, lengthOf, fields, reading}
+use Rattle.record.specs.Records.{causeOf, lengths, bodies, noBody, bodyOf, known, lengthOf, kindMessage, fields, reading}
+use Rattle.wire.proofs.Tests.{All}
 use Rattle.wire.specs.Bytes.{byte}
 use Rattle.wire.specs.Refusals.{wrongLength, unknownKind}
 use Rattle.record.specs.declared.event.Cause.the-variants.{StartOfMission}
@@ -37,6 +40,21 @@ up {m} {k} h other = omega arith
 pub body-none : (kind : ℕ) → (1 ≤ kind → length bodies ≤ kind) → bodyOf kind ≡ noBody
 body-none zero above = refl
 body-none (suc kind) above = List·getD-eq-default bodies noBody (above (omega arith))
+
+-- so it has no length
+pub length-none : (kind : ℕ) → (1 ≤ kind → length lengths ≤ kind) → lengthOf kind ≡ 0
+length-none zero above = refl
+length-none (suc kind) above = List·getD-eq-default lengths 0 (above (omega arith))
+
+-- and each of 1 to 11 has one
+pub length-some : (kind : ℕ) → (kind ≡ 0 → ⊥) → kind ≤ kindMessage → 1 ≤ lengthOf kind
+length-some zero other below = absurd (other refl)
+length-some (suc kind) other below = by (drop 1 lengths) (search needs) kind (omega arith)
+  where
+    by : (l : List ℕ) → All (λ n. 1 ≤ n) l → (i : ℕ) → i < length l → 1 ≤ getD l i 0
+    by [] h i inside = absurd (omega arith)
+    by (x ∷ xs) h zero inside = h .0
+    by (x ∷ xs) h (suc i) inside = by xs (h .1) i (omega arith)
 
 -- what the fields of a record of a known kind mean
 pub fields-at : (s : List ℕ) (kind i : ℕ) (r : Reading) → kind ≡ i → r ≡ fields (bodyOf i) s → r ≡ fields (bodyOf kind) s
@@ -70,14 +88,15 @@ module _ (s : List ℕ) where
       by [] h = absurd (h refl)
       by (kind ∷ body) h = refl
 
-  module _ (l : ℕ) (some : length s ≡ 0 → ⊥) (of-kind : l ≡ lengthOf (byte s 0)) where
-    pub read-unknown : l ≡ 0 → Refused unknownKind ≡ reading s
-    read-unknown h = sym (by-kind some ∙ simp (le-ltb 0 (lengthOf (byte s 0)) (omega arith)))
+  module _ (some : length s ≡ 0 → ⊥) where
+    pub read-unknown : (1 ≤ byte s 0 → length lengths ≤ byte s 0) → Refused unknownKind ≡ reading s
+    read-unknown none = sym (by-kind some ∙ simp (le-ltb 0 (lengthOf (byte s 0)) (omega (arith, length-none (byte s 0) none))))
 
-    pub read-length : (l ≡ 0 → ⊥) → (length s ≡ l → ⊥) → Refused wrongLength ≡ reading s
-    read-length h other =
-        sym (by-kind some ∙ simp (lt-ltb 0 (lengthOf (byte s 0)) (omega arith), ne-eqb (length s) (lengthOf (byte s 0)) (λ e. other (e ∙ sym of-kind))))
+    module _ (l : ℕ) (of-kind : l ≡ lengthOf (byte s 0)) (has : 1 ≤ lengthOf (byte s 0)) where
+      pub read-length : (length s ≡ l → ⊥) → Refused wrongLength ≡ reading s
+      read-length other =
+          sym (by-kind some ∙ simp (lt-ltb 0 (lengthOf (byte s 0)) has, ne-eqb (length s) (lengthOf (byte s 0)) (λ e. other (e ∙ sym of-kind))))
 
-    pub read-fields : (l ≡ 0 → ⊥) → length s ≡ l → fields (bodyOf (byte s 0)) s ≡ reading s
-    read-fields h same =
-        sym (by-kind some ∙ simp (lt-ltb 0 (lengthOf (byte s 0)) (omega arith), eq-eqb (length s) (lengthOf (byte s 0)) (same ∙ of-kind)))
+      pub read-fields : length s ≡ l → fields (bodyOf (byte s 0)) s ≡ reading s
+      read-fields same =
+          sym (by-kind some ∙ simp (lt-ltb 0 (lengthOf (byte s 0)) has, eq-eqb (length s) (lengthOf (byte s 0)) (same ∙ of-kind)))

@@ -1,11 +1,12 @@
 -- No second answer satisfies the contract of a public function: a line for each of this crate's, over the contract as the checker names it.
--- Proves: partner-same-once, partner-is-rbc-once, partner-in-range-once, partner-is-reserved-once, partner-can-be-named-once, read-once, take-one-once, take-once.
+-- Proves: partner-same-once, partner-is-rbc-once, partner-in-range-once, partner-is-reserved-once, partner-can-be-named-once, length-of-once, read-once, take-one-once, take-once.
 use mathlib.Core.Path.{_≡_, sym, _∙_}
 use Rattle.record.proofs.partner.Partner.same.Reads as partner-same
 use Rattle.record.proofs.partner.Partner.is_rbc.Reads as partner-is-rbc
 use Rattle.record.proofs.partner.Partner.in_range.Reads as partner-in-range
 use Rattle.record.proofs.partner.Partner.is_reserved.Reads as partner-is-reserved
 use Rattle.record.proofs.partner.Partner.can_be_named.Reads as partner-can-be-named
+use Rattle.record.proofs.read.length_of.Reads as length-of
 use Rattle.record.proofs.read.read.Reads as read
 use Rattle.record.proofs.take.take_one.Reads as take-one
 use Rattle.record.proofs.take.take.Reads as take
@@ -39,6 +40,12 @@ pub partner-can-be-named-once : (κ : _) (self : _) (r₁ : _) (r₂ : _)
     → partner-can-be-named.Post κ (self, tt) r₂ (self, tt)
     → r₁ ≡ r₂
 partner-can-be-named-once κ self r₁ r₂ p q = p ∙ sym q
+
+pub length-of-once : (κ : _) (kind : _) (r₁ : _) (r₂ : _)
+    → length-of.Post κ (kind, tt) r₁ (kind, tt)
+    → length-of.Post κ (kind, tt) r₂ (kind, tt)
+    → r₁ ≡ r₂
+length-of-once κ kind r₁ r₂ p q = p ∙ sym q
 
 pub read-once : (κ : _) (s : _) (r₁ : _) (r₂ : _)
     → read.Post κ (s, tt) r₁ (s, tt)

@@ -1,7 +1,7 @@
 -- One record off the front of a log.
 -- Proves: part-is, take-end, by-kind, take-unknown, take-short, part-reads, take-whole, taken-short, taken-long,
 -- taken-ok.
-use mathlib.Core.Path.{_≡_, refl, sym, ap, ap₂, _∙_}
+use mathlib.Core.Path.{_≡_, refl, sym, ap, ap₂, subst, _∙_}
 use mathlib.Core.Bool.{cond}
 use mathlib.Core.Logic.{inl, inr}
 use mathlib.Core.List.{List, [], _∷_}
@@ -14,11 +14,11 @@ use lib.Seq.{drop-cons, getD-take, getD-drop, length-take-le}
 use borrow.Author.Tests.{le-ltb, lt-ltb, le-leb, lt-leb, ltb-true, leb-true, leb-false}
 use Rattle.wire.proofs.Tests.{cond-case}
 use Rattle.wire.specs.Refusals.{logTooLong}
-use Rattle.record.specs.Records.{known, lengthOf, bodyOf, fields, reading}
+use Rattle.record.specs.Records.{lengths, known, lengthOf, bodyOf, fields, reading}
 use Rattle.record.specs.Takes.{nothingLeft, recordShort, kindUnknown, longestLog, takeOne, taken, TakenOk}
 use Rattle.record.specs.declared.event.Reading.{Reading}
 use Rattle.record.specs.declared.take.Taken.the-variants.{Whole, Stopped, Refused}
-use Rattle.record.proofs.ByKind.{read-fields}
+use Rattle.record.proofs.ByKind.{length-none, read-fields}
 
 -- the part of the log that is lent
 pub part-is : (log : List ℕ) (at k : ℕ) → take (at + k - at) (drop at log) ≡ take k (drop at log)
@@ -46,32 +46,32 @@ module _ (log : List ℕ) (at : ℕ) where
         ap takeOne cut
         ∙ ap₂ (λ n l. cond (known kind) (cond (leb (lengthOf kind) n) (Whole (lengthOf kind) (reading (take (lengthOf kind) l))) (Stopped recordShort)) (Stopped kindUnknown)) left (sym cut)
 
-    module _ (l : ℕ) (of-kind : l ≡ lengthOf (getD log at 0)) where
-      pub take-unknown : l ≡ 0 → Stopped kindUnknown ≡ takeOne (drop at log)
-      take-unknown h = sym (by-kind ∙ simp (le-ltb 0 (lengthOf (getD log at 0)) (omega arith)))
+    pub take-unknown : (1 ≤ getD log at 0 → length lengths ≤ getD log at 0) → Stopped kindUnknown ≡ takeOne (drop at log)
+    take-unknown none = sym (by-kind ∙ simp (le-ltb 0 (lengthOf (getD log at 0)) (omega (arith, length-none (getD log at 0) none))))
 
-      module _ (some : l ≡ 0 → ⊥) where
-        pub take-short : length log - at < l → Stopped recordShort ≡ takeOne (drop at log)
-        take-short short =
-            sym (by-kind ∙ simp (lt-ltb 0 (lengthOf (getD log at 0)) (omega arith), lt-leb (lengthOf (getD log at 0)) (length log - at) (omega arith)))
+    module _ (l : ℕ) (of-kind : l ≡ lengthOf (getD log at 0)) (has : 1 ≤ lengthOf (getD log at 0)) where
+      pub take-short : length log - at < l → Stopped recordShort ≡ takeOne (drop at log)
+      take-short short =
+          sym (by-kind ∙ simp (lt-ltb 0 (lengthOf (getD log at 0)) has, lt-leb (lengthOf (getD log at 0)) (length log - at) (omega arith)))
 
-        module _ (fits : l ≤ length log - at) where
-          -- a whole record that is lent reads as its fields
-          pub part-reads : (part : List ℕ) → part ≡ take l (drop at log) → fields (bodyOf (getD log at 0)) part ≡ reading part
-          part-reads part lent =
-              let long : length part ≡ l = ap length lent ∙ length-take-le l (drop at log) (simp length-drop (omega arith)) in
-              let kind : getD part 0 0 ≡ getD log at 0 =
-              ap (λ x. getD x 0 0) lent
-              ∙ getD-take l (drop at log) 0 0 (omega arith)
-              ∙ getD-drop at log 0 0
-              ∙ ap (λ i. getD log i 0) (add-zero at) in
-              ap (λ k. fields (bodyOf k) part) (sym kind)
-              ∙ read-fields part l (λ h. omega (arith, long)) (of-kind ∙ ap lengthOf (sym kind)) some long
+      module _ (fits : l ≤ length log - at) where
+        -- a whole record that is lent reads as its fields
+        pub part-reads : (part : List ℕ) → part ≡ take l (drop at log) → fields (bodyOf (getD log at 0)) part ≡ reading part
+        part-reads part lent =
+            let long : length part ≡ l = ap length lent ∙ length-take-le l (drop at log) (simp length-drop (omega arith)) in
+            let kind : getD part 0 0 ≡ getD log at 0 =
+            ap (λ x. getD x 0 0) lent
+            ∙ getD-take l (drop at log) 0 0 (omega arith)
+            ∙ getD-drop at log 0 0
+            ∙ ap (λ i. getD log i 0) (add-zero at) in
+            let same : lengthOf (getD log at 0) ≡ lengthOf (getD part 0 0) = ap lengthOf (sym kind) in
+            ap (λ k. fields (bodyOf k) part) (sym kind)
+            ∙ read-fields part (λ h. omega (arith, long)) l (of-kind ∙ same) (subst (λ n. 1 ≤ n) same has) long
 
-          pub take-whole : (r : Reading) → r ≡ reading (take l (drop at log)) → Whole l r ≡ takeOne (drop at log)
-          take-whole r means =
-              ap₂ Whole of-kind (means ∙ ap (λ k. reading (take k (drop at log))) of-kind)
-              ∙ sym (by-kind ∙ simp (lt-ltb 0 (lengthOf (getD log at 0)) (omega arith), le-leb (lengthOf (getD log at 0)) (length log - at) (omega arith)))
+        pub take-whole : (r : Reading) → r ≡ reading (take l (drop at log)) → Whole l r ≡ takeOne (drop at log)
+        take-whole r means =
+            ap₂ Whole of-kind (means ∙ ap (λ k. reading (take k (drop at log))) of-kind)
+            ∙ sym (by-kind ∙ simp (lt-ltb 0 (lengthOf (getD log at 0)) has, le-leb (lengthOf (getD log at 0)) (length log - at) (omega arith)))
 
 -- what is handed over is not too long
 pub taken-short : (log : List ℕ) → length log ≤ longestLog → taken log ≡ takeOne log

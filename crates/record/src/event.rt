@@ -22,14 +22,15 @@ pub enum Cause {
     HoleEnd,
 }
 
-// An event that a record means. The reason of an end all changes nothing and is not kept.
+// An event that a record means. The reason of an end all changes nothing and is not kept. The level and the mission are words of 64
+// bits: they then do not lie across a partner's bytes, and the compiled code keeps an event in registers.
 pub enum Event {
     Level {
-        level: u32,
+        level: u64,
         manual: bool,
     },
     Mission {
-        mission: u32,
+        mission: u64,
     },
     Mode,
     Hole {

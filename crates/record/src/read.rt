@@ -12,13 +12,15 @@ use crate::event::Event;
 use crate::event::PartnerEvent;
 use crate::event::Reading;
 use crate::partner::Partner;
-use wire::byte::word;
+use wire::byte::long;
 use wire::join::and;
 use wire::refusal::OUT_OF_RANGE;
 use wire::refusal::UNKNOWN_KIND;
 use wire::refusal::WRONG_LENGTH;
 
-// The kinds of record.
+// The kinds of record, and the number below them.
+pub(crate) const NO_KIND: u8 = 0;
+
 pub const KIND_LEVEL: u8 = 1;
 
 pub const KIND_MISSION: u8 = 2;
@@ -66,7 +68,7 @@ fn wide(n: u8) -> usize
 }
 
 // The length of a record of this kind; 0 where no kind has that number.
-pub(crate) fn length_of(kind: u8) -> usize
+pub fn length_of(kind: u8) -> usize
     ensures { λ r. ⌜ r ≡ lengthOf kind ⌝ }
 {
     if kind <= KIND_MESSAGE {
@@ -107,7 +109,7 @@ fn level_body(s: &[u8]) -> Reading
     within(
         and(level <= HIGHEST_LEVEL, manual <= 1),
         Event::Level {
-            level: word(level),
+            level: long(level),
             manual: manual == 1,
         },
     )
@@ -121,7 +123,7 @@ fn mission_body(s: &[u8]) -> Reading
     within(
         mission <= HIGHEST_MISSION,
         Event::Mission {
-            mission: word(mission),
+            mission: long(mission),
         },
     )
 }
@@ -251,10 +253,13 @@ pub fn read(s: &[u8]) -> Reading
         return Reading::Refused(WRONG_LENGTH);
     }
     let kind = s[0];
-    let length = length_of(kind);
-    if length == 0 {
+    if kind == NO_KIND {
         return Reading::Refused(UNKNOWN_KIND);
     }
+    if kind > KIND_MESSAGE {
+        return Reading::Refused(UNKNOWN_KIND);
+    }
+    let length = length_of(kind);
     if s.len() != length {
         return Reading::Refused(WRONG_LENGTH);
     }

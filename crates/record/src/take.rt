@@ -3,6 +3,8 @@ ghost use mathlib.Core.Path.{_≡_};
 ghost use lib.ListN.{drop};
 ghost use Rattle.record.specs.Takes.{takeOne, taken};
 use crate::event::Reading;
+use crate::read::KIND_MESSAGE;
+use crate::read::NO_KIND;
 use crate::read::fields_of;
 use crate::read::length_of;
 use wire::refusal::LOG_TOO_LONG;
@@ -34,10 +36,13 @@ pub fn take_one(log: &[u8], at: usize) -> Taken
         return Taken::Stopped(NOTHING_LEFT);
     }
     let kind = log[at];
-    let length = length_of(kind);
-    if length == 0 {
+    if kind == NO_KIND {
         return Taken::Stopped(KIND_UNKNOWN);
     }
+    if kind > KIND_MESSAGE {
+        return Taken::Stopped(KIND_UNKNOWN);
+    }
+    let length = length_of(kind);
     if log.len() - at < length {
         return Taken::Stopped(RECORD_SHORT);
     }

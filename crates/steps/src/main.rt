@@ -4,8 +4,7 @@ use libc::STDIN_FILENO;
 use libc::STDOUT_FILENO;
 use place::limits::FLEET_TRIES;
 use place::limits::Limits;
-use record::take::Taken;
-use record::take::take;
+use record::read::length_of;
 use std::num::wrapping_add_u64;
 use unit::start::cold_start;
 use unit::state::State;
@@ -42,12 +41,13 @@ impl Walk {
     // Steps on the record that stands next, if one stands whole.
     fn next(self, log: &[u8], actions: &mut [u8]) -> Walk {
         let at = self.at;
-        if at > log.len() {
+        if at >= log.len() {
             return self.stopped();
         }
-        let Taken::Whole { length, reading: _ } = take(&log[at..]) else {
+        let length = length_of(log[at]);
+        if length == 0 {
             return self.stopped();
-        };
+        }
         if log.len() - at < length {
             return self.stopped();
         }

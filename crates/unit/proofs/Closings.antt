@@ -1,11 +1,13 @@
 -- The closing of the places that are due, place after place as the code does it.
--- Proves: closings-place, closings-more, sent-more, closings-all, sent-all, closings-places, closings-actions.
-use mathlib.Core.Path.{_≡_, refl, sym, ap, ap₂, _∙_}
+-- Proves: closings-most, closings-place, closings-more, closings-few, closings-sent, sent-more, closings-all, actions-all, sent-all,
+-- closings-places, closings-room, closings-next, closings-actions.
+use mathlib.Core.Path.{_≡_, refl, sym, ap, ap₂, subst⁻¹, _∙_}
 use mathlib.Core.List.{List, [], _∷_, _++_, map, append-nil, append-assoc}
 use Prim.Native.Nat.{ℕ, suc, _+_, _≤_, _<_}
+use native.Mathlib.Nat.{min-le-left}
 use native.Mathlib.Numerals.{add-one}
 use native.Mathlib.Omega.{arith}
-use lib.ListN.{length, getD, take, drop, set, drop-of-length-le, length-map}
+use lib.ListN.{length, getD, take, drop, set, drop-of-length-le, length-map, length-take}
 use lib.Seq.{drop-cons, take-suc, take-all, getD-at, set-at, length-take-le}
 use Rattle.place.specs.Places.{vacant, partnerOf}
 use Rattle.place.proofs.Holdings.{partnerHeld, holdingClosedBy}
@@ -44,6 +46,14 @@ of-partner : (which : Closing) (k : Holding)
 of-partner which Free = refl
 of-partner which (Held d ph p) = refl
 
+-- so many places have at most as many actions
+pub closings-most : (which : Closing) (ps : List Place) (i : ℕ) → length (closingActions which (take i ps)) ≤ i
+closings-most which ps i =
+    let held = closingActions-few which (take i ps) in
+    let most = weigh-few (here busy) (take i ps) (λ q. once-few (busy q)) in
+    let taken : length (take i ps) ≤ i = rw (length-take i ps) (min-le-left i (length ps)) in
+    omega arith
+
 module _ (which : Closing) (ps : List Place) (i : ℕ) (below : i < length ps) where
   p : Place
   p = getD ps i vacant
@@ -73,8 +83,9 @@ module _ (which : Closing) (ps : List Place) (i : ℕ) (below : i < length ps) w
       ∙ sym (append-assoc (closed which (take i ps)) (placeAfter p (closedBy which p) ∷ []) (drop (suc i) ps))
       ∙ ap₂ _++_ (sym (ap (closed which) next ∙ closed-append which (take i ps) (p ∷ []))) (ap (λ k. drop k ps) (sym (add-one i)))
 
-  few : length (closingActions which (take i ps)) + length (numbers (closedBy which p)) ≤ i + 1
-  few =
+  pub closings-few : length (closingActions which (take i ps)) + length (numbers (closedBy which (getD ps i vacant))) ≤ i + 1
+  unfolding p
+  closings-few =
       let held = closingActions-few which (take i ps) in
       let most = weigh-few (here busy) (take i ps) (λ q. once-few (busy q)) in
       let taken = length-take-le i ps (omega arith) in
@@ -84,16 +95,24 @@ module _ (which : Closing) (ps : List Place) (i : ℕ) (below : i < length ps) w
       ap length (sym (of-partner which (p .holding))) ∙ length-map (numbers (closedBy which p)) (act (partnerHeld (p .holding))) in
       omega arith
 
-  -- and its actions follow the others
+  -- its actions follow the others
+  pub closings-sent :
+      closingActions which (take i ps) ++ map (act (partnerOf (getD ps i vacant))) (numbers (closedBy which (getD ps i vacant)))
+      ≡ closingActions which (take (i + 1) ps)
+  unfolding p closingActions
+  closings-sent =
+      ap (_++_ (closingActions which (take i ps))) (of-partner which (p .holding) ∙ sym (append-nil (actionsIn (p .holding) (closedBy which p))))
+      ∙ sym (ap (closingActions which) next ∙ closingActions-append which (take i ps) (p ∷ []))
+
+  -- in the array too
   pub sent-more :
       length ps ≤ mostActions
       → pushAll (listed (closingActions which (take i ps))) (partnerOf (getD ps i vacant)) (numbers (closedBy which (getD ps i vacant)))
       ≡ listed (closingActions which (take (i + 1) ps))
-  unfolding p closingActions
   sent-more room =
-      send-listed (closingActions which (take i ps)) (partnerOf p) (numbers (closedBy which p)) (omega (arith, few))
-      ∙ ap (λ x. listed (closingActions which (take i ps) ++ x)) (of-partner which (p .holding) ∙ sym (append-nil (actionsIn (p .holding) (closedBy which p))))
-      ∙ ap listed (sym (ap (closingActions which) next ∙ closingActions-append which (take i ps) (p ∷ [])))
+      send-listed (closingActions which (take i ps)) (partnerOf (getD ps i vacant)) (numbers (closedBy which (getD ps i vacant)))
+      (omega (arith, closings-few))
+      ∙ ap listed closings-sent
 
 module _ (which : Closing) (ps : List Place) (i : ℕ) (above : length ps ≤ i) where
   -- at the end all are closed
@@ -101,8 +120,11 @@ module _ (which : Closing) (ps : List Place) (i : ℕ) (above : length ps ≤ i)
   closings-all =
       ap₂ (λ a b. closed which a ++ b) (take-all i ps above) (drop-of-length-le ps above) ∙ append-nil (closed which ps)
 
+  pub actions-all : closingActions which (take i ps) ≡ closingActions which ps
+  actions-all = ap (closingActions which) (take-all i ps above)
+
   pub sent-all : listed (closingActions which (take i ps)) ≡ listed (closingActions which ps)
-  sent-all = ap (λ a. listed (closingActions which a)) (take-all i ps above)
+  sent-all = ap listed actions-all
 
 -- one turn of the code's loop
 module _ (which : Closing) (ps : List Place) (i : ℕ) (below : i < length ps) (places : List Place) (so-far : places ≡ closed which (take i ps) ++ drop i ps) where
@@ -117,6 +139,21 @@ module _ (which : Closing) (ps : List Place) (i : ℕ) (below : i < length ps) (
       ap₂ (λ l x. set l i x) so-far
       (after ∙ ap₂ placeAfter place-is (turn ∙ ap (closedBy which) place-is))
       ∙ closings-more which ps i below
+
+  pub closings-room : (t : Turn)
+      → t ≡ closedBy which (getD places i vacant)
+      → length (closingActions which (take i ps)) + length (numbers t) ≤ i + 1
+  closings-room t turn =
+      subst⁻¹ (λ u. length (closingActions which (take i ps)) + length (numbers u) ≤ i + 1) (turn ∙ ap (closedBy which) place-is)
+      (closings-few which ps i below)
+
+  pub closings-next : (q : Partner) (t : Turn)
+      → q ≡ partnerOf (getD places i vacant)
+      → t ≡ closedBy which (getD places i vacant)
+      → closingActions which (take i ps) ++ map (act q) (numbers t) ≡ closingActions which (take (i + 1) ps)
+  closings-next q t partner turn =
+      ap₂ (λ r u. closingActions which (take i ps) ++ map (act r) (numbers u)) (partner ∙ ap partnerOf place-is) (turn ∙ ap (closedBy which) place-is)
+      ∙ closings-sent which ps i below
 
   pub closings-actions : (before after : Actions) (q : Partner) (t : Turn)
       → length ps ≤ mostActions

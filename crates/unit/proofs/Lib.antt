@@ -15,6 +15,7 @@ pub mod Starts
 pub mod Tested
 pub mod Rules
 pub mod Settling
+pub mod Turning
 pub mod Closings
 pub mod Written
 pub mod OnBytes

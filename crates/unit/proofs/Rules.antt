@@ -1,6 +1,6 @@
 -- Each kind of step by what the code's tests and search showed, and the array of actions against the list.
--- Proves: hole-is, mission-is, order-is, call-is, named-is, turned-is, push-listed, send-listed.
-use mathlib.Core.Path.{_≡_, sym, ap, ap₂, _∙_}
+-- Proves: hole-is, mission-is, order-is, call-is, named-is, turned-is, push-listed, send-listed, push-append.
+use mathlib.Core.Path.{_≡_, refl, sym, ap, ap₂, _∙_}
 use mathlib.Core.Bool.{Bool, cond}
 use mathlib.Core.List.{List, [], _∷_, _++_, map, append-nil, append-assoc}
 use Prim.Native.Nat.{ℕ, _+_, _≤_, _<_}
@@ -29,6 +29,7 @@ use Rattle.unit.specs.declared.state.State.{State}
 use Rattle.unit.specs.declared.search.Found.{Found}
 use Rattle.unit.specs.declared.search.Found.the-variants.{At}
 use Rattle.unit.specs.declared.answer.Action.{Action}
+use Rattle.unit.specs.declared.answer.Actions.{Actions}
 
 module _ (s : State) where
   pub hole-is : (entered b : Bool)
@@ -102,3 +103,9 @@ send-listed acts p (k ∷ ks) room =
     ap (λ x. pushAll x p ks) (push-listed acts p k (omega arith))
     ∙ send-listed (acts ++ (act p k ∷ [])) p ks (simp length-append (omega arith))
     ∙ ap listed (append-assoc acts (act p k ∷ []) (map (act p) ks))
+
+-- numbers pushed one after the other
+pub push-append : (a : Actions) (p : Partner) (xs ys : List ℕ) → pushAll (pushAll a p xs) p ys ≡ pushAll a p (xs ++ ys)
+unfolding pushAll
+push-append a p [] ys = refl
+push-append a p (x ∷ xs) ys = push-append (pushed a p x) p xs ys

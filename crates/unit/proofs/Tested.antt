@@ -1,5 +1,5 @@
 -- Soundness of the places as the code tests it, from the lowest up.
--- Proves: absent-by, ok-end, ok-more, ok-bad, ok-twice, sound-four.
+-- Proves: absent-by, ok-end, ok-more, ok-bad, ok-twice, sound-by.
 use mathlib.Core.Path.{_≡_, refl, sym, ap, ap₂, _∙_}
 use mathlib.Core.Bool.{Bool, true, false, _&&_, not}
 use mathlib.Core.List.{List}
@@ -91,11 +91,24 @@ module _ (l : Limits) (ps : List Place) (i : ℕ) where
           → false ≡ placesOk l ps
       ok-twice good twice = sym (so-far ∙ ok-drop below ∙ ap₂ (λ x y. x && (y && placesOk l (drop (i + 1) ps))) good twice)
 
--- a state with four places is sound where its parts are
-pub sound-four : (s : State)
+and-swap : (a b : Bool) → (a && b) ≡ (b && a)
+and-swap true true = refl
+and-swap true false = refl
+and-swap false true = refl
+and-swap false false = refl
+
+-- a state with four places is sound where its parts are, by what the tests of all but the places showed
+pub sound-by : (s : State) (limits train marks last : Bool)
     → length (s .places) ≡ placeCount
-    → (limitsOk (s .limits) && (trainOk (s .train) && (marksOk (s .marks) && (placesOk (s .limits) (s .places) && lastOk (s .last))))) ≡ sound s
+    → limitsOk (s .limits) ≡ limits
+    → trainOk (s .train) ≡ train
+    → marksOk (s .marks) ≡ marks
+    → lastOk (s .last) ≡ last
+    → (limits && (train && (marks && (last && placesOk (s .limits) (s .places))))) ≡ sound s
 unfolding sound
-sound-four s four =
-    let rest = placesOk (s .limits) (s .places) && lastOk (s .last) in
-    sym (ap (λ b. limitsOk (s .limits) && (trainOk (s .train) && (marksOk (s .marks) && (b && rest)))) (eq-eqb (length (s .places)) placeCount four))
+sound-by s limits train marks last four of-limits of-train of-marks of-last =
+    let places = placesOk (s .limits) (s .places) in
+    ap₂ (λ a b. a && (b && (marks && (last && places)))) (sym of-limits) (sym of-train)
+    ∙ ap₂ (λ a b. limitsOk (s .limits) && (trainOk (s .train) && (a && (b && places)))) (sym of-marks) (sym of-last)
+    ∙ ap₂ (λ a b. limitsOk (s .limits) && (trainOk (s .train) && (marksOk (s .marks) && (a && b))))
+    (sym (eq-eqb (length (s .places)) placeCount four)) (and-swap (lastOk (s .last)) places)

@@ -1,8 +1,12 @@
 -- Only private contracts use what stands here: counting while a run goes on.
--- Defines: mostTotal, added, Below, Bounded.
+-- Defines: mostTotal, added, Below, Bounded, tallyOf, refusedRest, acceptedRest.
 use Rattle.place.specs.Table.{request, release, incompatible, initiate, terminate, established}
 use Rattle.unit.specs.declared.run.Totals.{Totals}
 use Rattle.unit.specs.declared.run.Tally.{Tally}
+use Rattle.unit.specs.declared.run.Rest.{Rest}
+use Rattle.unit.specs.declared.change.Change.{Change}
+use Rattle.place.specs.declared.place.Place.{Place}
+use mathlib.Core.List.{List}
 use Prim.Native.Nat.{ℕ, _+_, _*_, _≤_}
 use mathlib.Core.Bool.{cond}
 use lib.Dec.{eqb}
@@ -38,3 +42,42 @@ pub record Bounded (t : Tally) : Type 0 where
   pub read : t .read ≤ t .offset
   pub refused : t .refused ≤ t .read
   pub totals : Below (4 * t .read) (t .totals)
+
+-- a run so far, its places taken up again
+abbrev pub tallyOf : Rest → List Place → Tally
+tallyOf r ps =
+    record {
+      state = record { limits = r .limits; train = r .train; marks = r .marks; places = ps; last = r .last };
+      offset = r .offset;
+      read = r .read;
+      refused = r .refused;
+      totals = r .totals;
+    }
+
+-- the rest of a run after a record of this length that was refused
+abbrev pub refusedRest : Rest → ℕ → Rest
+refusedRest r k =
+    record {
+      limits = r .limits;
+      train = r .train;
+      marks = r .marks;
+      last = r .last;
+      offset = r .offset + k;
+      read = r .read + 1;
+      refused = r .refused + 1;
+      totals = r .totals;
+    }
+
+-- and after one that made this change, the actions of its closings counted in these totals
+abbrev pub acceptedRest : Rest → ℕ → Change → Totals → Rest
+acceptedRest r k c t =
+    record {
+      limits = r .limits;
+      train = c .train;
+      marks = c .marks;
+      last = c .last;
+      offset = r .offset + k;
+      read = r .read + 1;
+      refused = r .refused;
+      totals = added (added t (c .first)) (c .second);
+    }

@@ -4,9 +4,10 @@ ghost use mathlib.Core.List.{List, []};
 ghost use Rattle.place.specs.Table.{numbers};
 ghost use Rattle.unit.specs.Steps.{refusedAt, refused, done};
 ghost use Rattle.unit.specs.Forms.{listed, packed};
-ghost use Rattle.unit.specs.Changes.{pushed, pushAll};
+ghost use Rattle.unit.specs.Changes.{pushed, pushAll, given};
 use crate::search::Standing;
 use crate::state::State;
+use place::action::NO_ACTION;
 use place::action::RELEASE;
 use place::turn::Turn;
 use record::partner::Partner;
@@ -91,6 +92,19 @@ impl Actions {
                 second,
                 phase: _,
             } => { self.push(partner, first).push(partner, second) }
+        }
+    }
+}
+
+impl Actions {
+    // The action of this number, after the others; 0 is none.
+    pub(crate) fn send_number(self, partner: Partner, number: u8) -> Actions
+        ensures { λ r. ⌜ r ≡ pushAll self partner (given number) ⌝ }
+    {
+        if number == NO_ACTION {
+            self
+        } else {
+            self.push(partner, number)
         }
     }
 }

@@ -1,17 +1,31 @@
 // One step from bytes to bytes: an event record in, the actions out.
 ghost use mathlib.Core.Path.{_≡_};
-ghost use Prim.Native.Nat.{_+_, _*_, _≤_};
-ghost use lib.ListN.{length, take};
+ghost use mathlib.Core.List.{[], _∷_, map};
+ghost use Prim.Native.Nat.{_+_, _≤_, _<_};
+ghost use lib.ListN.{length};
 ghost use lib.Seq.{sets};
-ghost use Rattle.unit.specs.OnRecords.{actionSize, bytesOf, written, applied, onRecord};
+ghost use Rattle.place.specs.Table.{numbers};
+ghost use Rattle.unit.specs.Steps.{refusedAt, act, withPlaces, closed, closingActions, step};
+ghost use Rattle.unit.specs.OnRecords.{actionRoom, actionSize, bytesOf, written, applied, onRecord};
 ghost use Rattle.unit.specs.Forms.{mostActions, packed, stepped};
+ghost use Rattle.unit.specs.Changes.{given, sending, settled, made, sentBehind, Appended};
 use crate::answer::Action;
-use crate::answer::Actions;
 use crate::answer::Answer;
 use crate::answer::Stepped;
+use crate::change::Change;
+use crate::search::Standing;
+use crate::state::PLACES;
 use crate::state::State;
+use crate::step::closes_any;
+use place::action::NO_ACTION;
+use place::action::RELEASE;
+use place::turn::Closing;
+use place::turn::Turn;
+use record::event::Event;
 use record::event::Reading;
+use record::partner::Partner;
 use record::read::read;
+use wire::refusal::ACCEPTED;
 use wire::refusal::NO_ROOM;
 use wire::refusal::NOT_SOUND;
 
@@ -33,17 +47,68 @@ fn put(s: &mut [u8], at: usize, action: Action)
     s[at + 4] = partner.low;
 }
 
-// Writes the actions one after the other; later bytes stay.
-fn put_all(s: &mut [u8], actions: Actions)
-    requires { ⌜ (actions .count ≤ mostActions) × (actionSize * actions .count ≤ length (now s)) ⌝ }
-    ensures { λ r. ⌜ now (s .exit) ≡ written (take (actions .count) (actions .items)) (now (s .entry)) ⌝ }
+// Writes an action behind so many others; answers how many they are then.
+fn put_one(s: &mut [u8], count: usize, partner: Partner, number: u8) -> usize
+    requires { ⌜ (count < mostActions) × (actionRoom ≤ length (now s)) ⌝ }
+    ensures { λ r. ⌜ (r ≡ count + 1) × Appended (now (s .entry)) (now (s .exit)) count (act partner number ∷ []) ⌝ }
 {
-    let count = actions.count;
-    let mut i = 0;
-    while i < count {
-        let action = actions.items[i];
-        put(s, ACTION_SIZE * i, action);
-        i += 1;
+    put(s, ACTION_SIZE * count, Action { number, partner });
+    count + 1
+}
+
+// Writes the action of this number behind so many others; 0 is none.
+fn put_number(s: &mut [u8], count: usize, partner: Partner, number: u8) -> usize
+    requires { ⌜ (count + length (given number) ≤ mostActions) × (actionRoom ≤ length (now s)) ⌝ }
+    ensures { λ r.
+        ⌜ (r ≡ count + length (given number))
+        × Appended (now (s .entry)) (now (s .exit)) count (map (act partner) (given number)) ⌝ }
+{
+    if number == NO_ACTION {
+        return count;
+    }
+    put_one(s, count, partner, number)
+}
+
+// Writes the actions of a turn behind so many others.
+fn put_turn(s: &mut [u8], count: usize, partner: Partner, turn: Turn) -> usize
+    requires { ⌜ (count + length (numbers turn) ≤ mostActions) × (actionRoom ≤ length (now s)) ⌝ }
+    ensures { λ r.
+        ⌜ (r ≡ count + length (numbers turn))
+        × Appended (now (s .entry)) (now (s .exit)) count (map (act partner) (numbers turn)) ⌝ }
+{
+    match turn {
+        Turn::Stays => count,
+        Turn::Released => put_one(s, count, partner, RELEASE),
+        Turn::Becomes(_) => count,
+        Turn::Sends { number, phase: _ } => put_one(s, count, partner, number),
+        Turn::SendsBoth {
+            first,
+            second,
+            phase: _,
+        } => {
+            let next = put_one(s, count, partner, first);
+            put_one(s, next, partner, second)
+        }
+    }
+}
+
+// A state whose places are closed, and how many actions were written.
+struct Closed {
+    state: State,
+    count: usize,
+}
+
+impl Stepped {
+    // A refusal: the state as given, no action.
+    fn refused(code: u8, standing: Standing, state: State) -> Stepped
+        ensures { λ r. ⌜ r ≡ stepped (refusedAt code standing state) ⌝ }
+    {
+        Stepped {
+            code,
+            state,
+            count: 0,
+            standing,
+        }
     }
 }
 
@@ -62,14 +127,75 @@ impl State {
         }
     }
 
-    // What it answers to a record where its action buffer has this room.
-    fn answer(self, bytes: &[u8], room: usize) -> Answer
-        ensures { λ r. ⌜ r ≡ packed (onRecord self (now (bytes .entry)) room) ⌝ }
+    // Closes the places that the closing is for, lowest first, and writes the actions as it goes.
+    fn write_closings(self, which: Closing, s: &mut [u8]) -> Closed
+        requires { ⌜ actionRoom ≤ length (now s) ⌝ }
+        ensures { λ r.
+            ⌜ (r .state ≡ withPlaces self (closed which (self .places)))
+            × (r .count ≡ length (closingActions which (self .places)))
+            × (now (s .exit) ≡ written (closingActions which (self .places)) (now (s .entry))) ⌝ }
     {
-        if room < ACTION_ROOM {
-            Answer::refused(NO_ROOM, self)
+        let mut places = self.places;
+        let mut count = 0;
+        let mut i = 0;
+        while i < PLACES {
+            let place = places[i];
+            let turn = place.closed_by(which);
+            count = put_turn(s, count, place.partner(), turn);
+            places[i] = place.after(turn);
+            i += 1;
+        }
+        let mut state = self;
+        state.places = places;
+        Closed { state, count }
+    }
+
+    // The rest of a change, behind so many actions of closings.
+    fn write_sent(self, change: Change, count: usize, s: &mut [u8]) -> Stepped
+        requires { ⌜ (count + length (sending change) ≤ mostActions) × (actionRoom ≤ length (now s)) ⌝ }
+        ensures { λ r.
+            ⌜ (r ≡ sentBehind count (settled self change) (sending change))
+            × Appended (now (s .entry)) (now (s .exit)) count (sending change) ⌝ }
+    {
+        let partner = change.partner;
+        let next = put_number(s, count, partner, change.first);
+        let sent = put_number(s, next, partner, change.second);
+        Stepped {
+            code: ACCEPTED,
+            state: self.settle(change),
+            count: sent,
+            standing: Standing::nowhere(),
+        }
+    }
+
+    // What an accepted step changes. Closings go their own way: without them the compiled code copies no place.
+    fn write_change(self, change: Change, s: &mut [u8]) -> Stepped
+        requires { ⌜ (length (made self change .actions) ≤ mostActions) × (actionRoom ≤ length (now s)) ⌝ }
+        ensures { λ r.
+            ⌜ (r ≡ stepped (made self change)) × (now (s .exit) ≡ written (made self change .actions) (now (s .entry))) ⌝ }
+    {
+        let which = change.which;
+        if closes_any(which) {
+            let shut = self.write_closings(which, s);
+            let closed = shut.state;
+            return closed.write_sent(change, shut.count, s);
+        }
+        self.write_sent(change, 0, s)
+    }
+
+    // One step on an event, its actions written.
+    fn write_step(self, event: Event, s: &mut [u8]) -> Stepped
+        requires { ⌜ actionRoom ≤ length (now s) ⌝ }
+        ensures { λ r.
+            ⌜ (r ≡ stepped (step self event)) × (now (s .exit) ≡ written (step self event .actions) (now (s .entry))) ⌝ }
+    {
+        let change = self.change(event);
+        let code = change.code;
+        let standing = change.standing;
+        if code == ACCEPTED {
+            self.write_change(change, s)
         } else {
-            self.apply(bytes)
+            Stepped::refused(code, standing, self)
         }
     }
 
@@ -81,16 +207,16 @@ impl State {
             × (now (actions .exit)
             ≡ written (onRecord self (now (bytes .entry)) (length (now (actions .entry))) .actions) (now (actions .entry))) ⌝ }
     {
-        let answer = self.answer(bytes, actions.len());
-        let sent = answer.actions;
-        put_all(actions, sent);
-        let state = answer.state;
-        let standing = answer.standing;
-        Stepped {
-            code: answer.code,
-            state,
-            count: sent.count,
-            standing,
+        if actions.len() < ACTION_ROOM {
+            return Stepped::refused(NO_ROOM, Standing::nowhere(), self);
+        }
+        if self.is_sound() {
+            match read(bytes) {
+                Reading::Meant(event) => self.write_step(event, actions),
+                Reading::Refused(code) => Stepped::refused(code, Standing::nowhere(), self),
+            }
+        } else {
+            Stepped::refused(NOT_SOUND, Standing::nowhere(), self)
         }
     }
 }

@@ -2,14 +2,17 @@
 ghost use mathlib.Core.Path.{_≡_};
 ghost use Prim.Native.Nat.{_<_};
 ghost use mathlib.Core.Bool.{true, false};
-ghost use mathlib.Core.List.{[], map};
-ghost use Rattle.place.specs.Table.{numbers, turn};
+ghost use mathlib.Core.List.{[], _++_, map};
+ghost use lib.ListN.{getD};
+ghost use Rattle.place.specs.Places.{vacant, heldPhase};
+ghost use Rattle.place.specs.Table.{turn};
 ghost use Rattle.wire.specs.Refusals.{accepted};
 ghost use Rattle.unit.specs.States.{placeCount, standing};
 ghost use Rattle.unit.specs.declared.search.Found.the-variants.{At};
 ghost use Rattle.unit.specs.Steps.{refusedAt, refused, done, act, withTrain, withMarks, closePlaces, takenIn, orderedTo, setAt, turned, step};
 ghost use Rattle.place.specs.declared.turn.Closing.the-variants.{Every};
-ghost use Rattle.unit.specs.Changes.{noted, carried};
+ghost use Rattle.unit.specs.Changes.{given, noted, carried};
+use crate::last::Last;
 use crate::order::displaced;
 use crate::order::in_force;
 use crate::order::spend;
@@ -21,13 +24,13 @@ use crate::state::PLACES;
 use crate::state::State;
 use crate::state::Train;
 use place::action::ESTABLISHED;
+use place::action::NO_ACTION;
 use place::action::REQUEST;
 use place::phase::FIRST_TRY;
 use place::phase::Phase;
 use place::place::Direction;
 use place::place::Place;
 use place::turn::Closing;
-use place::turn::Turn;
 use record::event::Cause;
 use record::event::Event;
 use record::event::PartnerEvent;
@@ -43,8 +46,8 @@ use wire::refusal::NOT_IN_FORCE;
 use wire::refusal::NOT_TAKEN;
 
 // A step before it is carried out: 0 or the number of the refusal; the train and the marks after it; which places are closed;
-// then the place that is set, if its number is one of the four, and the partner and turn whose actions are sent last; and, for a
-// refusal, the place and phase that it says.
+// then the place that is set, if its number is one of the four; the partner and the numbers of the actions that are sent last, 0 for
+// none; for a refusal, the place and phase that it says; and the RBC that is then the last known.
 pub(crate) struct Change {
     pub code: u8,
     pub train: Train,
@@ -53,14 +56,23 @@ pub(crate) struct Change {
     pub at: usize,
     pub place: Place,
     pub partner: Partner,
-    pub turn: Turn,
+    pub first: u8,
+    pub second: u8,
     pub standing: Standing,
+    pub last: Last,
 }
 
 impl Change {
     // A change that sets no place.
-    fn noted(code: u8, train: Train, marks: Marks, which: Closing, standing: Standing) -> Change
-        ensures { λ r. ⌜ r ≡ noted code train marks which standing ⌝ }
+    fn noted(
+        code: u8,
+        train: Train,
+        marks: Marks,
+        which: Closing,
+        standing: Standing,
+        last: Last,
+    ) -> Change
+        ensures { λ r. ⌜ r ≡ noted code train marks which standing last ⌝ }
     {
         Change {
             code,
@@ -75,8 +87,10 @@ impl Change {
                 middle: 0,
                 low: 0,
             },
-            turn: Turn::Stays,
+            first: NO_ACTION,
+            second: NO_ACTION,
             standing,
+            last,
         }
     }
 }
@@ -89,7 +103,8 @@ impl State {
     {
         let train = self.train;
         let marks = self.marks;
-        Change::noted(code, train, marks, Closing::Nothing, standing)
+        let last = self.last;
+        Change::noted(code, train, marks, Closing::Nothing, standing, last)
     }
 
     // A refusal that says no place.
@@ -116,12 +131,14 @@ impl State {
     fn note(self, train: Train, marks: Marks) -> Change
         ensures { λ r. ⌜ carried self r ≡ done (withMarks (withTrain self train) marks) [] ⌝ }
     {
+        let last = self.last;
         Change::noted(
             ACCEPTED,
             train,
             marks,
             Closing::Nothing,
             Standing::nowhere(),
+            last,
         )
     }
 
@@ -130,10 +147,18 @@ impl State {
         ensures { λ r. ⌜ carried self r ≡ closePlaces Every (withTrain self train) ⌝ }
     {
         let marks = self.marks;
-        Change::noted(ACCEPTED, train, marks, Closing::Every, Standing::nowhere())
+        let last = self.last;
+        Change::noted(
+            ACCEPTED,
+            train,
+            marks,
+            Closing::Every,
+            Standing::nowhere(),
+            last,
+        )
     }
 
-    fn level(self, level: u32, manual: bool) -> Change
+    fn level(self, level: u64, manual: bool) -> Change
         ensures { λ r. ⌜ carried self r ≡ step self (Event.Level level manual) ⌝ }
     {
         let mut train = self.train;
@@ -179,7 +204,7 @@ impl State {
         self.refuse(NOT_TAKEN)
     }
 
-    fn mission(self, mission: u32) -> Change
+    fn mission(self, mission: u64) -> Change
         ensures { λ r. ⌜ carried self r ≡ step self (Event.Mission mission) ⌝ }
     {
         let mut train = self.train;
@@ -204,6 +229,7 @@ impl State {
         ensures { λ r. ⌜ carried self r ≡ takenIn (closePlaces which (withMarks self marks)) at partner ⌝ }
     {
         let train = self.train;
+        let last = self.last;
         let phase = Phase::Connecting(FIRST_TRY);
         Change {
             code: ACCEPTED,
@@ -213,11 +239,10 @@ impl State {
             at,
             place: Place::held(Direction::Outgoing, phase, partner),
             partner,
-            turn: Turn::Sends {
-                number: REQUEST,
-                phase,
-            },
+            first: REQUEST,
+            second: NO_ACTION,
             standing: Standing::nowhere(),
+            last,
         }
     }
 
@@ -256,12 +281,13 @@ impl State {
         }
     }
 
-    // Another place at this number, and the actions of a turn for its partner.
-    fn set_place(self, at: usize, place: Place, partner: Partner, turn: Turn) -> Change
-        ensures { λ r. ⌜ carried self r ≡ setAt self at place (map (act partner) (numbers turn)) ⌝ }
+    // Another place at this number, and the actions of these numbers for its partner.
+    fn set_place(self, at: usize, place: Place, partner: Partner, first: u8, second: u8) -> Change
+        ensures { λ r. ⌜ carried self r ≡ setAt self at place (map (act partner) (given first ++ given second)) ⌝ }
     {
         let train = self.train;
         let marks = self.marks;
+        let last = self.last;
         Change {
             code: ACCEPTED,
             train,
@@ -270,8 +296,10 @@ impl State {
             at,
             place,
             partner,
-            turn,
+            first,
+            second,
             standing: Standing::nowhere(),
+            last: last.recall(partner, first).recall(partner, second),
         }
     }
 
@@ -283,11 +311,7 @@ impl State {
                 Found::At { place, phase } => self.refuse_at(HAS_PLACE, place, phase),
                 Found::Vacant(at) => {
                     let place = Place::held(Direction::Incoming, Phase::Open, partner);
-                    let turn = Turn::Sends {
-                        number: ESTABLISHED,
-                        phase: Phase::Open,
-                    };
-                    self.set_place(at, place, partner, turn)
+                    self.set_place(at, place, partner, ESTABLISHED, NO_ACTION)
                 }
                 Found::Full => self.refuse(ALL_TAKEN),
             }
@@ -296,17 +320,17 @@ impl State {
         }
     }
 
-    // What an event that names this partner makes of the place where it was found, in this phase. The place is read before it is
-    // known whether it turns: the compiled code is shorter so.
+    // What an event that names this partner makes of the place where it was found, in this phase.
     fn turn(self, at: usize, phase: Phase, partner: Partner, event: PartnerEvent) -> Change
-        requires { ⌜ at < placeCount ⌝ }
+        requires { ⌜ (at < placeCount) × (heldPhase (getD (self .places) at vacant) ≡ phase) ⌝ }
         ensures { λ r. ⌜ carried self r ≡ turned self at phase partner (turn (self .limits) phase event) ⌝ }
     {
         let limits = self.limits;
         let place = self.place_at(at);
-        let turn = phase.turn(event, limits);
-        if turn.is_taken() {
-            self.set_place(at, place.after(turn), partner, turn)
+        let turned = place.turn(event, limits);
+        if turned.taken {
+            let next = turned.place;
+            self.set_place(at, next, partner, turned.first, turned.second)
         } else {
             self.refuse_at(NOT_TAKEN, at, phase)
         }

@@ -1,11 +1,8 @@
 // The last known RBC: the one of the most recent 159 sent to an RBC.
 ghost use mathlib.Core.Path.{_≡_};
-ghost use mathlib.Core.List.{map};
-ghost use Rattle.place.specs.Table.{numbers};
-ghost use Rattle.unit.specs.Lasts.{lastOk, knownOr, meant, recalledBy, recalled};
+ghost use Rattle.unit.specs.Lasts.{lastOk, knownOr, meant, recalledBy};
 ghost use Rattle.unit.specs.Steps.{act};
 use place::action::ESTABLISHED;
-use place::turn::Turn;
 use record::partner::Partner;
 use record::partner::RBC;
 use wire::join::and;
@@ -63,7 +60,7 @@ impl Last {
     }
 
     // What is known after an action for this partner.
-    fn recall(self, partner: Partner, number: u8) -> Last
+    pub(crate) fn recall(self, partner: Partner, number: u8) -> Last
         ensures { λ r. ⌜ r ≡ recalledBy self (act partner number) ⌝ }
     {
         if and(number == ESTABLISHED, partner.is_rbc()) {
@@ -74,23 +71,6 @@ impl Last {
             }
         } else {
             self
-        }
-    }
-
-    // What is known after the actions of a turn for this partner. A release is no 159.
-    pub(crate) fn recall_turn(self, partner: Partner, turn: Turn) -> Last
-        ensures { λ r. ⌜ r ≡ recalled self (map (act partner) (numbers turn)) ⌝ }
-    {
-        match turn {
-            Turn::Stays => self,
-            Turn::Released => self,
-            Turn::Becomes(_) => self,
-            Turn::Sends { number, phase: _ } => self.recall(partner, number),
-            Turn::SendsBoth {
-                first,
-                second,
-                phase: _,
-            } => { self.recall(partner, first).recall(partner, second) }
         }
     }
 }

@@ -12,11 +12,11 @@ use wire::join::negated;
 use wire::join::or;
 
 // The mission that a start of mission is ordered in, and the levels with a radio.
-const MISSION_STARTING: u32 = 1;
+const MISSION_STARTING: u64 = 1;
 
-const LEVEL_TWO: u32 = 2;
+const LEVEL_TWO: u64 = 2;
 
-const LEVEL_THREE: u32 = 3;
+const LEVEL_THREE: u64 = 3;
 
 fn radio_level(train: Train) -> bool
     ensures { λ r. ⌜ r ≡ radioLevel train ⌝ }

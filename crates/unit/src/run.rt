@@ -1,25 +1,34 @@
 // The run over a log: its records one after the other, counted.
 ghost use mathlib.Core.Path.{_≡_};
-ghost use Prim.Native.Nat.{_+_, _*_, _≤_, _<_};
+ghost use Prim.Native.Nat.{_+_, _*_, _≤_};
 ghost use mathlib.Core.Bool.{true};
-ghost use lib.ListN.{length, take, drop};
-ghost use Rattle.wire.specs.Refusals.{outOfRange};
-ghost use Rattle.unit.specs.States.{sound};
-ghost use Rattle.unit.specs.OnRecords.{onReading};
-ghost use Rattle.unit.specs.Steps.{refused};
-ghost use Rattle.unit.specs.Forms.{mostActions};
-ghost use Rattle.record.specs.Records.{readingOk};
+ghost use mathlib.Core.List.{map};
+ghost use lib.ListN.{length, set};
+ghost use Rattle.record.specs.declared.partner.Partner.{Partner};
 ghost use Rattle.record.specs.Takes.{longestLog};
-ghost use Rattle.unit.specs.Runs.{noTotals, totalled, fresh, counted, go, run};
-ghost use Rattle.unit.specs.Counting.{mostTotal, added, Below, Bounded};
-use crate::answer::Actions;
+ghost use Rattle.place.specs.Table.{numbers};
+ghost use Rattle.unit.specs.States.{sound};
+ghost use Rattle.unit.specs.Steps.{act, closed, closingActions};
+ghost use Rattle.unit.specs.Forms.{mostActions};
+ghost use Rattle.unit.specs.Runs.{noTotals, totalled, fresh, ended, go, run};
+ghost use Rattle.unit.specs.Counting.{mostTotal, added, Below, tallyOf, refusedRest, acceptedRest};
+use crate::change::Change;
+use crate::last::Last;
+use crate::state::Marks;
+use crate::state::PLACES;
 use crate::state::State;
+use crate::state::Train;
+use crate::step::closes_any;
 use place::action::ESTABLISHED;
 use place::action::INCOMPATIBLE;
 use place::action::INITIATE;
 use place::action::RELEASE;
 use place::action::REQUEST;
 use place::action::TERMINATE;
+use place::limits::Limits;
+use place::place::Place;
+use place::turn::Closing;
+use place::turn::Turn;
 use record::event::Reading;
 use record::take::BUDGET_USED;
 use record::take::LONGEST_LOG;
@@ -105,31 +114,22 @@ impl Totals {
         }
     }
 
-    // One more action: the one of this number among a step's, if it has so many.
-    fn add_at(self, actions: Actions, i: usize) -> Totals
-        requires { ⌜ (actions .count ≤ mostActions) × (i < mostActions) × Below (mostTotal + i) self ⌝ }
-        ensures { λ r.
-            ⌜ Below (mostTotal + (i + 1)) r
-            × (totalled self (drop i (take (actions .count) (actions .items)))
-            ≡ totalled r (drop (i + 1) (take (actions .count) (actions .items)))) ⌝ }
+    // The actions of a turn.
+    fn add_turn(self, turn: Turn) -> Totals
+        requires { ⌜ Below (mostTotal + mostActions) self ⌝ }
+        ensures { λ r. ⌜ ((p : Partner) → r ≡ totalled self (map (act p) (numbers turn))) ⌝ }
     {
-        if i < actions.count {
-            let action = actions.items[i];
-            self.add(action.number)
-        } else {
-            self
+        match turn {
+            Turn::Stays => self,
+            Turn::Released => self.add(RELEASE),
+            Turn::Becomes(_) => self,
+            Turn::Sends { number, phase: _ } => self.add(number),
+            Turn::SendsBoth {
+                first,
+                second,
+                phase: _,
+            } => { self.add(first).add(second) }
         }
-    }
-
-    // The actions of one step, of which there are at most four.
-    fn add_all(self, actions: Actions) -> Totals
-        requires { ⌜ (actions .count ≤ mostActions) × Below mostTotal self ⌝ }
-        ensures { λ r. ⌜ r ≡ totalled self (take (actions .count) (actions .items)) ⌝ }
-    {
-        self.add_at(actions, 0)
-            .add_at(actions, 1)
-            .add_at(actions, 2)
-            .add_at(actions, 3)
     }
 }
 
@@ -146,11 +146,107 @@ impl Tally {
             totals: Totals::none(),
         }
     }
+}
+
+// A run so far without its places. They stand apart: an array that is stored into by a changing number is kept in memory, and so is all
+// that it lies in.
+struct Rest {
+    limits: Limits,
+    train: Train,
+    marks: Marks,
+    last: Last,
+    offset: usize,
+    read: u32,
+    refused: u32,
+    totals: Totals,
+}
+
+// Places that are closed, and the totals with the closings' actions.
+struct Swept {
+    places: [Place; 4],
+    totals: Totals,
+}
+
+// A count as a number of 64 bits.
+fn wide(n: u32) -> usize
+    ensures { λ r. ⌜ r ≡ n ⌝ }
+{
+    n as usize
+}
+
+// The places with this one at a number; past the last they stay.
+fn seated(before: [Place; 4], at: usize, place: Place) -> [Place; 4]
+    ensures { λ r. ⌜ r ≡ set before at place ⌝ }
+{
+    let mut places = before;
+    if at < PLACES {
+        places[at] = place;
+        return places;
+    }
+    places
+}
+
+impl Rest {
+    // A run before its first record.
+    fn fresh(state: State) -> Rest
+        ensures { λ r. ⌜ tallyOf r (state .places) ≡ fresh state ⌝ }
+    {
+        let limits = state.limits;
+        let train = state.train;
+        let marks = state.marks;
+        let last = state.last;
+        Rest {
+            limits,
+            train,
+            marks,
+            last,
+            offset: 0,
+            read: 0,
+            refused: 0,
+            totals: Totals::none(),
+        }
+    }
+
+    // The state, with these places.
+    fn state(self, places: [Place; 4]) -> State
+        ensures { λ r. ⌜ r ≡ tallyOf self places .state ⌝ }
+    {
+        let limits = self.limits;
+        let train = self.train;
+        let marks = self.marks;
+        let last = self.last;
+        State {
+            limits,
+            train,
+            marks,
+            places,
+            last,
+        }
+    }
+
+    // What the run answers with these places and this stop.
+    fn report(self, stop: u8, places: [Place; 4]) -> Report
+        ensures { λ r. ⌜ r ≡ ended (tallyOf self places) stop ⌝ }
+    {
+        let totals = self.totals;
+        let state = self.state(places);
+        Report {
+            code: ACCEPTED,
+            stop,
+            tally: Tally {
+                state,
+                offset: self.offset,
+                read: self.read,
+                refused: self.refused,
+                totals,
+            },
+        }
+    }
 
     // The run after a record of this length that was refused.
-    fn refuse(self, length: usize) -> Tally
-        requires { ⌜ Bounded self × (self .offset + length ≤ longestLog) ⌝ }
-        ensures { λ r. ⌜ r ≡ counted self length (refused outOfRange (self .state)) ⌝ }
+    fn refuse(self, length: usize) -> Rest
+        requires { ⌜ (self .offset + length ≤ longestLog) × (self .read ≤ self .offset) × (self .refused ≤ self .read) ⌝ }
+        ensures { λ r. ⌜ r ≡ refusedRest self length ⌝ }
     {
         let mut next = self;
         next.offset = self.offset + length;
@@ -159,77 +255,102 @@ impl Tally {
         next
     }
 
-    // The run after one more record, of this length and with this meaning.
-    fn apply(self, reading: Reading, length: usize) -> Tally
-        requires { ⌜ Bounded self × (self .offset + length ≤ longestLog) × (sound (self .state) ≡ true) × (readingOk reading ≡ true) ⌝ }
-        ensures { λ r. ⌜ r ≡ counted self length (onReading (self .state) reading) ⌝ }
+    // The run after a record of this length that made this change, its closings counted in these totals.
+    fn accept(self, length: usize, change: Change, totals: Totals) -> Rest
+        requires { ⌜ (self .offset + length ≤ longestLog) × (self .read ≤ self .offset) × Below (mostTotal + mostActions) totals ⌝ }
+        ensures { λ r. ⌜ r ≡ acceptedRest self length change totals ⌝ }
     {
-        match reading {
-            Reading::Meant(event) => {
-                let state = self.state;
-                let answer = state.step(event);
-                if answer.code == ACCEPTED {
-                    let totals = self.totals;
-                    let actions = answer.actions;
-                    let next = answer.state;
-                    Tally {
-                        state: next,
-                        offset: self.offset + length,
-                        read: self.read + 1,
-                        refused: self.refused,
-                        totals: totals.add_all(actions),
-                    }
-                } else {
-                    self.refuse(length)
-                }
-            }
-            Reading::Refused(_) => self.refuse(length),
+        let limits = self.limits;
+        let train = change.train;
+        let marks = change.marks;
+        let last = change.last;
+        Rest {
+            limits,
+            train,
+            marks,
+            last,
+            offset: self.offset + length,
+            read: self.read + 1,
+            refused: self.refused,
+            totals: totals.add(change.first).add(change.second),
         }
     }
 }
 
-// The records of a log from a sound state.
+impl State {
+    // Closes the places that the closing is for, and counts the actions.
+    fn sweep(self, which: Closing, counted: Totals) -> Swept
+        requires { ⌜ Below mostTotal counted ⌝ }
+        ensures { λ r.
+            ⌜ (r .places ≡ closed which (self .places))
+            × (r .totals ≡ totalled counted (closingActions which (self .places)))
+            × Below (mostTotal + mostActions) (r .totals) ⌝ }
+    {
+        let mut places = self.places;
+        let mut totals = counted;
+        let mut i = 0;
+        while i < PLACES {
+            let place = places[i];
+            let turn = place.closed_by(which);
+            totals = totals.add_turn(turn);
+            places[i] = place.after(turn);
+            i += 1;
+        }
+        Swept { places, totals }
+    }
+}
+
+// The records of a log from a sound state. A change is stored where it stands, so that a place that is set copies no other. Each way goes
+// on to the end of the loop: with a `continue` the compiler makes two loops of one.
 fn go(state: State, log: &[u8], budget: usize) -> Report
     requires { ⌜ (length (now log) ≤ longestLog) × (sound state ≡ true) ⌝ }
     ensures { λ r. ⌜ r ≡ go budget (fresh state) (now (log .entry)) ⌝ }
 {
-    let mut tally = Tally::fresh(state);
-    let mut left = budget;
+    let mut rest = Rest::fresh(state);
+    let mut places = state.places;
     loop {
-        let at = tally.offset;
+        let at = rest.offset;
         if at >= log.len() {
-            break Report {
-                code: ACCEPTED,
-                stop: NOTHING_LEFT,
-                tally,
-            };
+            break rest.report(NOTHING_LEFT, places);
         }
-        if left == 0 {
-            break Report {
-                code: ACCEPTED,
-                stop: BUDGET_USED,
-                tally,
-            };
+        if wide(rest.read) == budget {
+            break rest.report(BUDGET_USED, places);
         }
         match take_one(log, at) {
             Taken::Stopped(stop) => {
-                break Report {
-                    code: ACCEPTED,
-                    stop,
-                    tally,
-                };
+                break rest.report(stop, places);
             }
             Taken::Refused(code) => {
-                break Report {
-                    code: ACCEPTED,
-                    stop: code,
-                    tally,
-                };
+                break rest.report(code, places);
             }
-            Taken::Whole { length, reading } => {
-                tally = tally.apply(reading, length);
-                left -= 1;
-            }
+            Taken::Whole { length, reading } => match reading {
+                Reading::Refused(_) => {
+                    rest = rest.refuse(length);
+                }
+                Reading::Meant(event) => {
+                    let state = rest.state(places);
+                    let change = state.change(event);
+                    let code = change.code;
+                    let which = change.which;
+                    let to = change.at;
+                    let place = change.place;
+                    let totals = rest.totals;
+                    if code != ACCEPTED {
+                        rest = rest.refuse(length);
+                    } else if closes_any(which) {
+                        let swept = state.sweep(which, totals);
+                        let closed = swept.places;
+                        let counted = swept.totals;
+                        rest = rest.accept(length, change, counted);
+                        places = seated(closed, to, place);
+                    } else if to < PLACES {
+                        rest = rest.accept(length, change, totals);
+                        places[to] = place;
+                    } else {
+                        rest = rest.accept(length, change, totals);
+                    }
+                }
+            },
         }
     }
 }

@@ -19,17 +19,17 @@ pub const PLACES: usize = 4;
 // The largest X, level and mission.
 const HIGHEST_X: u8 = 7;
 
-const HIGHEST_LEVEL: u32 = record::read::HIGHEST_LEVEL as u32;
+const HIGHEST_LEVEL: u64 = record::read::HIGHEST_LEVEL as u64;
 
-const HIGHEST_MISSION: u32 = record::read::HIGHEST_MISSION as u32;
+const HIGHEST_MISSION: u64 = record::read::HIGHEST_MISSION as u64;
 
 // Mission 0, ended.
-pub const MISSION_ENDED: u32 = 0;
+pub const MISSION_ENDED: u64 = 0;
 
-// The level and the mission.
+// The level and the mission, as wide as in an event.
 pub struct Train {
-    pub level: u32,
-    pub mission: u32,
+    pub level: u64,
+    pub mission: u64,
 }
 
 // The four marks: inside a radio hole, mode change to report, manual level change, hole end.
@@ -126,12 +126,22 @@ impl State {
         let train = self.train;
         let marks = self.marks;
         let last = self.last;
-        and(
-            limits_ok(limits),
-            and(
-                train_ok(train),
-                and(marks_ok(marks), and(self.places_ok(), last.is_sound())),
-            ),
-        )
+        if limits_ok(limits) {
+            if train_ok(train) {
+                if marks_ok(marks) {
+                    if last.is_sound() {
+                        self.places_ok()
+                    } else {
+                        false
+                    }
+                } else {
+                    false
+                }
+            } else {
+                false
+            }
+        } else {
+            false
+        }
     }
 }

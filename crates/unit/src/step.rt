@@ -15,7 +15,7 @@ use record::event::Event;
 use wire::refusal::ACCEPTED;
 
 // Whether the closing is for any place.
-fn closes_any(which: Closing) -> bool
+pub(crate) fn closes_any(which: Closing) -> bool
     ensures { λ r. ⌜ r ≡ closesAny which ⌝ }
 {
     match which {
@@ -45,19 +45,16 @@ impl State {
         Answer::done(next, actions)
     }
 
-    // The state with a change's train, marks and place, and the RBC of its actions.
-    fn settle(self, change: Change) -> State
+    // The state with a change's train, marks and place, and its last known RBC.
+    pub(crate) fn settle(self, change: Change) -> State
         ensures { λ r. ⌜ r ≡ settled self change ⌝ }
     {
         let limits = self.limits;
-        let known = self.last;
         let train = change.train;
         let marks = change.marks;
         let at = change.at;
         let place = change.place;
-        let partner = change.partner;
-        let turn = change.turn;
-        let last = known.recall_turn(partner, turn);
+        let last = change.last;
         let mut places = self.places;
         if at < PLACES {
             places[at] = place;
@@ -85,11 +82,15 @@ impl State {
     {
         let which = change.which;
         let partner = change.partner;
-        let turn = change.turn;
+        let first = change.first;
+        let second = change.second;
         let closed = self.close_places(which);
         let state = closed.state;
         let actions = closed.actions;
-        Answer::done(state.settle(change), actions.send(partner, turn))
+        let sent = actions
+            .send_number(partner, first)
+            .send_number(partner, second);
+        Answer::done(state.settle(change), sent)
     }
 
     // What an accepted step changes.
@@ -99,11 +100,15 @@ impl State {
     {
         let which = change.which;
         let partner = change.partner;
-        let turn = change.turn;
+        let first = change.first;
+        let second = change.second;
         if closes_any(which) {
             return self.close_and_settle(change);
         }
-        Answer::done(self.settle(change), Actions::none().send(partner, turn))
+        let sent = Actions::none()
+            .send_number(partner, first)
+            .send_number(partner, second);
+        Answer::done(self.settle(change), sent)
     }
 
     // One step: the next state and the actions in their order, or the refusal with the state as given.

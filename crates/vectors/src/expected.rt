@@ -3,7 +3,6 @@ ghost use Prim.Native.Nat.{_<_};
 use crate::part::front;
 use crate::part::number_at;
 use crate::part::rest;
-use crate::part::word;
 use image::read::same;
 use place::limits::Limits;
 use place::place::Holding;
@@ -16,6 +15,7 @@ use unit::state::Marks;
 use unit::state::State;
 use unit::state::Train;
 use wire::byte::byte_at;
+use wire::byte::long;
 use wire::join::and;
 
 // The bytes of a state: an A2 image's after its kind.
@@ -34,8 +34,8 @@ pub const PLACE_SIZE: usize = 7;
 // The bytes of a step's answer beside its state and its actions: code, count, place and phase.
 pub(crate) const ANSWER_SIZE: usize = 4;
 
-fn word_is(n: u32, s: &[u8], at: usize) -> bool {
-    n == word(byte_at(s, at))
+fn number_is(n: u64, s: &[u8], at: usize) -> bool {
+    n == long(byte_at(s, at))
 }
 
 // Whether the byte is the mark's.
@@ -74,7 +74,7 @@ pub(crate) fn last_is(last: Last, s: &[u8]) -> bool {
 }
 
 fn train_is(train: Train, s: &[u8]) -> bool {
-    and(word_is(train.level, s, 2), word_is(train.mission, s, 3))
+    and(number_is(train.level, s, 2), number_is(train.mission, s, 3))
 }
 
 // Whether bytes 4 to 7 are the marks.

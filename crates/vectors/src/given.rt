@@ -4,7 +4,6 @@ use crate::expected::LAST_AT;
 use crate::expected::PLACE_SIZE;
 use crate::expected::TRIES_AT;
 use crate::part::rest;
-use crate::part::word;
 use place::limits::Limits;
 use place::phase::Phase;
 use place::place::Direction;
@@ -15,6 +14,7 @@ use unit::state::Marks;
 use unit::state::State;
 use unit::state::Train;
 use wire::byte::byte_at;
+use wire::byte::long;
 
 fn phase_in(number: u8, tries: u8) -> Phase {
     match number {
@@ -64,8 +64,8 @@ pub(crate) fn limits_in(s: &[u8], tries_at: usize) -> Limits {
 
 fn train_in(s: &[u8]) -> Train {
     Train {
-        level: word(byte_at(s, 2)),
-        mission: word(byte_at(s, 3)),
+        level: long(byte_at(s, 2)),
+        mission: long(byte_at(s, 3)),
     }
 }
 

@@ -14,7 +14,6 @@ use crate::part::announced;
 use crate::part::number_at;
 use crate::part::rest;
 use crate::part::sum;
-use crate::part::word;
 use place::phase::FIRST_TRY;
 use place::phase::Phase;
 use place::place::Direction;
@@ -27,6 +26,7 @@ use record::read::KIND_ORDER;
 use unit::state::Marks;
 use unit::state::State;
 use wire::byte::byte_at;
+use wire::byte::long;
 use wire::join::and;
 use wire::join::negated;
 use wire::refusal::ACCEPTED;
@@ -166,8 +166,8 @@ fn head_kept(state: State, mission: u8, cause: u8, s: &[u8]) -> bool {
             marks_left(marks, cause, s),
         ),
         and(
-            train.level == word(byte_at(s, 2)),
-            train.mission == word(mission),
+            train.level == long(byte_at(s, 2)),
+            train.mission == long(mission),
         ),
     )
 }

@@ -11,13 +11,6 @@ pub(crate) fn wide(n: u8) -> usize
     n as usize
 }
 
-// The same as a number of 32 bits.
-pub(crate) fn word(n: u8) -> u32
-    ensures { λ r. ⌜ r ≡ n ⌝ }
-{
-    n as u32
-}
-
 // The number of a byte at a place.
 pub(crate) fn number_at(s: &[u8], at: usize) -> usize
     ensures { λ r. ⌜ r < 256 ⌝ }

@@ -9,6 +9,13 @@ pub fn word(n: u8) -> u32
     n as u32
 }
 
+// A byte as a number of 64 bits.
+pub fn long(n: u8) -> u64
+    ensures { λ r. ⌜ r ≡ n ⌝ }
+{
+    n as u64
+}
+
 // The byte at a place of a slice; 0 past its end.
 pub fn byte_at(s: &[u8], i: usize) -> u8
     ensures { λ r. ⌜ r ≡ byte (now (s .entry)) i ⌝ }

@@ -92,7 +92,7 @@ steps-codes (suc budget) s (x ∷ log) good small =
         let bytes = take k (x ∷ log) in
         let below : 0 < length (x ∷ log) = omega arith in
         let ok = whole-ok (x ∷ log) 0 k r below (sym (taken-short (x ∷ log) small) ∙ e) in
-        let reads = part-reads (x ∷ log) 0 below k (ok .0) (λ none. omega (arith, ok .1)) (ok .2) bytes refl in
+        let reads = part-reads (x ∷ log) 0 below k (ok .0) (omega (arith, ok .0, ok .1)) (ok .2) bytes refl in
         and-both (runCode (next k .code)) (allCodes (steps budget (next k .state) (drop k (x ∷ log))))
         (ap (λ o. runCode (o .code)) (applied-reading s bytes good (fields (bodyOf x) bytes) reads) ∙ fields-code s x bytes)
         (rest k)

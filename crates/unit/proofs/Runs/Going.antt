@@ -1,5 +1,5 @@
 -- One turn of the run's loop: what stands at the front is a whole record, and the run goes on after it.
--- Proves: whole-ok, whole-ready, run-next.
+-- Proves: whole-ok, whole-ready, run-next, run-again.
 use mathlib.Core.Path.{_≡_, refl, sym, ap, ap₂, subst, _∙_}
 use mathlib.Core.Bool.{true, cond}
 use mathlib.Core.List.{List}
@@ -21,6 +21,7 @@ use Rattle.record.specs.Takes.{recordShort, kindUnknown, longestLog, takeOne}
 use Rattle.unit.specs.Runs.{counted, go}
 use Rattle.unit.specs.Counting.{Bounded}
 use Rattle.unit.specs.declared.run.Tally.{Tally}
+use Rattle.unit.specs.declared.run.Report.{Report}
 use Rattle.record.specs.declared.event.Reading.{Reading}
 use Rattle.record.specs.declared.take.Taken.{Taken}
 use Rattle.record.specs.declared.take.Taken.the-variants.{Whole, Stopped, Refused}
@@ -99,4 +100,23 @@ module _ (log : List ℕ) (t : Tally) (k : ℕ) (r : Reading) (below : t .offset
           ap (sound) state-next ∙ onRecord-sound (t .state) (take k (drop (t .offset) log)) actionRoom good,
           go-step t left some (drop (t .offset) log) k r (taken-short (drop (t .offset) log) (simp length-drop (omega (arith, small))) ∙ e)
               ∙ ap₂ (λ x l. go (left - 1) x l) (sym is-next) (drop-drop k (t .offset) log ∙ ap (λ m. drop m log) (sym offset-next)),
+        )
+
+    -- and the budget counts what was read
+    pub run-again : (budget : ℕ) (before : Report)
+        → Bounded t
+        → t .read ≤ budget
+        → (t .read ≡ budget → ⊥)
+        → before ≡ go (budget - t .read) t (drop (t .offset) log)
+        → (u .offset ≤ length log) × Bounded u × (sound (u .state) ≡ true) × (u .read ≤ budget) × (before ≡ go (budget - u .read) u (drop (u .offset) log))
+    unfolding next counted
+    run-again budget before bounded within some so-far =
+        let read : u .read ≡ t .read + 1 = ap (λ x. x .read) is-next in
+        let fewer : budget - t .read - 1 ≡ budget - u .read = omega (arith, read) in
+        let next = run-next (budget - t .read) bounded (λ none. some (omega (arith, within, none))) in (
+          next .0,
+          next .1,
+          next .2,
+          omega (arith, read, within, some),
+          so-far ∙ next .3 ∙ ap (λ b. go b u (drop (u .offset) log)) fewer,
         )

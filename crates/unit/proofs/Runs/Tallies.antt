@@ -1,28 +1,31 @@
 -- The counts of a run, one record more.
--- Proves: totalled-none, totalled-next, totalled-end, totalled-past, below-more, added-below, counted-done, counted-kept,
--- bounded-fresh, bounded-next.
-use mathlib.Core.Path.{_≡_, refl, sym, ap, ap₂, _∙_}
+-- Proves: totalled-none, totalled-append, totalled-one, totalled-sending, below-more, added-below, counted-made, counted-refused,
+-- counted-kept, totalled-below, bounded-fresh, bounded-next.
+use mathlib.Core.Path.{_≡_, refl, sym, ap, _∙_}
 use mathlib.Core.Bool.{Bool, true, false, cond}
-use mathlib.Core.List.{List, [], _∷_}
-use Prim.Native.Nat.{ℕ, suc, _+_, _*_, _≤_, _<_}
-use native.Mathlib.Nat.{add-zero, min-le-left}
-use native.Mathlib.Numerals.{add-one}
+use mathlib.Core.List.{List, [], _∷_, _++_, map, map-append}
+use Prim.Native.Nat.{ℕ, suc, _+_, _*_, _≤_}
+use native.Mathlib.Nat.{add-zero}
 use native.Mathlib.Omega.{arith}
 use lib.Dec.{eqb}
-use lib.ListN.{length, getD, take, drop, length-take, drop-of-length-le}
-use lib.Seq.{drop-cons, getD-take, length-take-le}
-use borrow.Author.Tests.{eq-eqb, ne-eqb}
+use lib.ListN.{length, set}
+use borrow.Author.Tests.{ne-eqb, eqb-true}
 use Rattle.wire.specs.Refusals.{accepted, outOfRange}
-use Rattle.wire.proofs.Tests.{cond-holds}
+use Rattle.wire.proofs.Tests.{cond-case, cond-holds}
+use Rattle.record.specs.declared.partner.Partner.{Partner}
+use Rattle.place.specs.declared.place.Place.{Place}
 use Rattle.place.specs.Table.{request, release, incompatible, initiate, terminate, established}
-use Rattle.unit.specs.Steps.{Outcome, refused}
-use Rattle.unit.specs.Forms.{noAction, mostActions}
+use Rattle.unit.specs.Steps.{Outcome, refused, act, closed, closingActions}
+use Rattle.unit.specs.Forms.{mostActions}
+use Rattle.unit.specs.Changes.{given, sending, settled, made}
+use Rattle.unit.specs.declared.change.Change.{Change}
 use Rattle.unit.specs.declared.state.State.{State}
 use Rattle.unit.specs.declared.answer.Action.{Action}
 use Rattle.unit.specs.Runs.{totalOf, totalled, fresh, counted}
-use Rattle.unit.specs.Counting.{added, Below, Bounded}
+use Rattle.unit.specs.Counting.{added, Below, Bounded, tallyOf, refusedRest, acceptedRest}
 use Rattle.unit.specs.declared.run.Totals.{Totals}
 use Rattle.unit.specs.declared.run.Tally.{Tally}
+use Rattle.unit.specs.declared.run.Rest.{Rest}
 
 -- no action adds nothing
 pub totalled-none : (t : Totals) → totalled t [] ≡ t
@@ -56,25 +59,33 @@ totalled-cons t a acts =
       established = one-more (eqb (a .number) established) (t .established) (totalOf established acts) i;
     }
 
-pub totalled-next : (t : Totals) (items : List Action) (few i : ℕ)
-    → i < few
-    → few ≤ length items
-    → totalled t (drop i (take few items)) ≡ totalled (added t (getD items i noAction .number)) (drop (i + 1) (take few items))
-totalled-next t items few i below enough =
-    ap (totalled t) (drop-cons (take few items) i noAction (omega (arith, length-take-le few items enough)))
-    ∙ totalled-cons t (getD (take few items) i noAction) (drop (suc i) (take few items))
-    ∙ ap₂ (λ a k. totalled (added t (a .number)) (drop k (take few items))) (getD-take few items i noAction below) (sym (add-one i))
+-- some actions, then others
+pub totalled-append : (t : Totals) (acts more : List Action) → totalled t (acts ++ more) ≡ totalled (totalled t acts) more
+totalled-append t [] more = ap (λ u. totalled u more) (sym (totalled-none t))
+totalled-append t (a ∷ acts) more =
+    totalled-cons t a (acts ++ more)
+    ∙ totalled-append (added t (a .number)) acts more
+    ∙ ap (λ u. totalled u more) (sym (totalled-cons t a acts))
 
--- past the last action nothing is counted
-pub totalled-end : (t : Totals) (items : List Action) (few i : ℕ) → few ≤ i → totalled t (drop i (take few items)) ≡ t
-totalled-end t items few i above =
-    let all : length (take few items) ≤ few = rw (length-take few items) (min-le-left few (length items)) in
-    ap (totalled t) (drop-of-length-le (take few items) {i = i} (omega arith)) ∙ totalled-none t
+-- one action
+pub totalled-one : (t : Totals) (a : Action) → totalled t (a ∷ []) ≡ added t (a .number)
+totalled-one t a = totalled-cons t a [] ∙ totalled-none (added t (a .number))
 
-pub totalled-past : (t : Totals) (items : List Action) (few i : ℕ)
-    → few ≤ i
-    → totalled t (drop i (take few items)) ≡ totalled t (drop (i + 1) (take few items))
-totalled-past t items few i above = totalled-end t items few i above ∙ sym (totalled-end t items few (i + 1) (omega arith))
+-- the action of a number; 0 is none of the six
+totalled-given : (t : Totals) (p : Partner) (number : ℕ) → totalled t (map (act p) (given number)) ≡ added t number
+unfolding given added
+totalled-given t p number =
+    cond-case (λ ks. totalled t (map (act p) ks) ≡ added t number) (eqb number 0) [] (number ∷ [])
+    (λ none. totalled-none t ∙ ap (added t) (sym (eqb-true number 0 none)))
+    (λ some. totalled-one t (act p number))
+
+-- the actions that a change sends last
+pub totalled-sending : (t : Totals) (c : Change) → totalled t (sending c) ≡ added (added t (c .first)) (c .second)
+totalled-sending t c =
+    ap (totalled t) (map-append (act (c .partner)) (given (c .first)) (given (c .second)))
+    ∙ totalled-append t (map (act (c .partner)) (given (c .first))) (map (act (c .partner)) (given (c .second)))
+    ∙ totalled-given (totalled t (map (act (c .partner)) (given (c .first)))) (c .partner) (c .second)
+    ∙ ap (λ u. added u (c .second)) (totalled-given t (c .partner) (c .first))
 
 -- what is under a number is under a larger one, and one more action adds at most one
 pub below-more : {b c : ℕ} {t : Totals} → b ≤ c → Below b t → Below c t
@@ -103,22 +114,42 @@ added-below b t number below =
       established = at-most b (eqb number established) (t .established) (below .established);
     }
 
--- an accepted record
-pub counted-done : (t : Tally) (k : ℕ) (o : Outcome)
-    → o .code ≡ accepted
-    → _≡_ {A = Tally} (record { state = o .state; offset = t .offset + k; read = t .read + 1; refused = t .refused; totals = totalled (t .totals) (o .actions) }) (counted t k o)
-unfolding counted
-counted-done t k o done =
+-- an accepted record: the change made, its closings in these totals
+pub counted-made : (r : Rest) (ps next : List Place) (k : ℕ) (c : Change) (t : Totals)
+    → next ≡ set (closed (c .which) ps) (c .at) (c .place)
+    → t ≡ totalled (r .totals) (closingActions (c .which) ps)
+    → tallyOf (acceptedRest r k c t) next ≡ counted (tallyOf r ps) k (made (tallyOf r ps .state) c)
+unfolding counted made settled
+counted-made r ps next k c t places closings =
+    let sum =
+    ap (λ u. added (added u (c .first)) (c .second)) closings
+    ∙ sym
+    (totalled-append (r .totals) (closingActions (c .which) ps) (sending c)
+    ∙ totalled-sending (totalled (r .totals) (closingActions (c .which) ps)) c) in
     λ i.
     record {
-      state = o .state;
-      offset = t .offset + k;
-      read = t .read + 1;
-      refused = (sym (ap (λ b. t .refused + cond b 0 1) (eq-eqb (o .code) accepted done) ∙ add-zero (t .refused))) i;
-      totals = totalled (t .totals) (o .actions);
+      state = record { limits = r .limits; train = c .train; marks = c .marks; places = places i; last = c .last };
+      offset = r .offset + k;
+      read = r .read + 1;
+      refused = sym (add-zero (r .refused)) i;
+      totals = sum i;
     }
 
--- a refused record, whatever its number
+-- a refused record: the state and the totals stay
+pub counted-refused : (r : Rest) (ps : List Place) (k : ℕ)
+    → tallyOf (refusedRest r k) ps ≡ counted (tallyOf r ps) k (refused outOfRange (tallyOf r ps .state))
+unfolding counted
+counted-refused r ps k =
+    λ i.
+    record {
+      state = tallyOf r ps .state;
+      offset = r .offset + k;
+      read = r .read + 1;
+      refused = r .refused + 1;
+      totals = sym (totalled-none (r .totals)) i;
+    }
+
+-- whatever its number
 pub counted-kept : (t : Tally) (k : ℕ) (o : Outcome)
     → (o .code ≡ accepted → ⊥)
     → o .state ≡ t .state
@@ -151,7 +182,7 @@ count-few number (a ∷ acts) =
     let rest = count-few number acts in
     cond-holds (λ c. c ≤ suc (length acts)) (eqb (a .number) number) (suc (totalOf number acts)) (totalOf number acts) (omega arith) (omega arith)
 
-totalled-below : (b c : ℕ) (t : Totals) (acts : List Action) → length acts ≤ c → Below b t → Below (b + c) (totalled t acts)
+pub totalled-below : (b c : ℕ) (t : Totals) (acts : List Action) → length acts ≤ c → Below b t → Below (b + c) (totalled t acts)
 unfolding totalled
 totalled-below b c t acts few below =
     let field : (number x : ℕ) → x ≤ b → x + totalOf number acts ≤ b + c = λ number x h. omega (arith, count-few number acts) in

@@ -7,7 +7,7 @@ use Rattle.image.proofs.read.train_in.Tie as tie
 
 returns : tie.Need-returns
 unfolding stateIn
-returns c = λ i. record { level = (c .before .before .word .ensures ∙ c .before .before .before .byte-at .ensures) i; mission = (c .word2 .ensures ∙ c .before .byte-at2 .ensures) i }
+returns c = λ i. record { level = (c .before .before .long .ensures ∙ c .before .before .before .byte-at .ensures) i; mission = (c .long2 .ensures ∙ c .before .byte-at2 .ensures) i }
 
 pub train-in-spec : {M : Type 1} → statement M
 train-in-spec = tie.close (tie.spec (λ c κs. search needs) (λ c κs. search needs) (λ c κs. search needs) (λ c κs. search needs) returns)

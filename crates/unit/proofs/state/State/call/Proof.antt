@@ -1,7 +1,11 @@
 -- An RBC takes the lowest free place.
 use borrow.Author.Needs.{needs}
-use mathlib.Core.Path.{refl, sym, _∙_}
+use mathlib.Core.Path.{refl, sym, ap, _∙_}
 use mathlib.Core.Bool.{true, false}
+use mathlib.Core.List.{[], _∷_}
+use Rattle.place.specs.Table.{established}
+use Rattle.unit.specs.Steps.{act, setAt}
+use Rattle.unit.specs.Changes.{given}
 use Rattle.unit.proofs.Rules.{call-is}
 use Rattle.unit.proofs.state.State.call.Statement.{statement}
 use Rattle.unit.proofs.state.State.call.Tie as tie
@@ -17,13 +21,16 @@ returns c =
     ∙ sym (call-is (start .args .self) (start .args .partner) true _ rbc (sym (sought .seek .ensures) ∙ told .place .given .1))
 
 returns-2 : tie.Need-returns-2
+unfolding given
 returns-2 c =
     let start = c .before .before .before .before .before .before .before .before in
     let tested = c .before .before .before .before .before .before .before in
     let sought = c .before .before .before .before .before in
     let told = c .before .before .before in
     let rbc = sym (tested .is-rbc .ensures) ∙ c .before .before .before .before .before .before .if1 .taken in
-    rw (← c .before .held .ensures) (c .set-place .ensures)
+    let alone = act (start .args .partner) established ∷ [] in
+    c .set-place .ensures
+    ∙ ap (λ place. setAt (start .args .self) (told .at .given .0 .0) place alone) (c .before .held .ensures)
     ∙ sym (call-is (start .args .self) (start .args .partner) true _ rbc (sym (sought .seek .ensures) ∙ told .at .given .1))
 
 returns-3 : tie.Need-returns-3

@@ -1,33 +1,62 @@
--- The parts are tested; four places there are.
+-- The parts are tested, up to the first that is not as it should be; four places there are.
 use borrow.Author.Needs.{needs}
-use mathlib.Core.Path.{sym, ap₂, _∙_}
-use mathlib.Core.Bool.{_&&_}
-use lib.ListN.{length-map}
-use Rattle.unit.proofs.Tested.{sound-four}
+use mathlib.Core.Path.{_≡_, refl, sym, _∙_}
+use mathlib.Core.Bool.{true, false}
+use lib.ListN.{length, length-map}
+use Rattle.unit.proofs.Tested.{sound-by}
 use Rattle.unit.proofs.state.State.is_sound.Statement.{statement}
 use Rattle.unit.proofs.state.State.is_sound.Tie as tie
+
+four : (c : tie.Start) → length (c .args .self .places) ≡ 4
+four c = sym (length-map (c .args .self .places) _) ∙ c .good .0 .1 .1 .1 .1 .1 .0 .1 .0 .1
 
 returns : tie.Need-returns
 returns c =
     let start = c .before .before .before .before .before .before .before .before .before .before .before .before in
-    let self = start .args .self in
-    let known = c .before .before .before .before in
-    let places = c .before .before .before .before .before in
-    let marks = c .before .before .before .before .before .before in
-    let train = c .before .before .before .before .before .before .before in
-    let limits = c .before .before .before .before .before .before .before .before in
-    let four = sym (length-map (self .places) _) ∙ start .good .0 .1 .1 .1 .1 .1 .0 .1 .0 .1 in
-    c .and4 .ensures
-    ∙ ap₂ _&&_ (limits .limits-ok .ensures)
-    (c .before .and3 .ensures
-    ∙ ap₂ _&&_ (train .train-ok .ensures)
-    (c .before .before .and2 .ensures
-    ∙ ap₂ _&&_ (marks .marks-ok .ensures)
-    (c .before .before .before .and .ensures ∙ ap₂ _&&_ (places .places-ok .ensures) (known .is-sound .ensures))))
-    ∙ sound-four self four
+    c .places-ok .ensures
+    ∙ sound-by (start .args .self) true true true true (four start)
+    (sym (c .before .before .before .before .before .before .before .before .limits-ok .ensures)
+    ∙ c .before .before .before .before .before .before .before .if1 .taken)
+    (sym (c .before .before .before .before .before .before .train-ok .ensures) ∙ c .before .before .before .before .before .if2 .taken)
+    (sym (c .before .before .before .before .marks-ok .ensures) ∙ c .before .before .before .if3 .taken)
+    (sym (c .before .before .is-sound .ensures) ∙ c .before .if4 .taken)
+
+returns-2 : tie.Need-returns-2
+returns-2 c =
+    let start = c .before .before .before .before .before .before .before .before .before .before .before in
+    sound-by (start .args .self) true true true false (four start)
+    (sym (c .before .before .before .before .before .before .before .limits-ok .ensures)
+    ∙ c .before .before .before .before .before .before .if1 .taken)
+    (sym (c .before .before .before .before .before .train-ok .ensures) ∙ c .before .before .before .before .if2 .taken)
+    (sym (c .before .before .before .marks-ok .ensures) ∙ c .before .before .if3 .taken)
+    (sym (c .before .is-sound .ensures) ∙ c .if4 .left)
+
+returns-3 : tie.Need-returns-3
+returns-3 c =
+    let start = c .before .before .before .before .before .before .before .before .before in
+    sound-by (start .args .self) true true false _ (four start)
+    (sym (c .before .before .before .before .before .limits-ok .ensures) ∙ c .before .before .before .before .if1 .taken)
+    (sym (c .before .before .before .train-ok .ensures) ∙ c .before .before .if2 .taken)
+    (sym (c .before .marks-ok .ensures) ∙ c .if3 .left)
+    refl
+
+returns-4 : tie.Need-returns-4
+returns-4 c =
+    let start = c .before .before .before .before .before .before .before in
+    sound-by (start .args .self) true false _ _ (four start)
+    (sym (c .before .before .before .limits-ok .ensures) ∙ c .before .before .if1 .taken)
+    (sym (c .before .train-ok .ensures) ∙ c .if2 .left)
+    refl refl
+
+returns-5 : tie.Need-returns-5
+returns-5 c =
+    let start = c .before .before .before .before .before in
+    sound-by (start .args .self) false _ _ _ (four start)
+    (sym (c .before .limits-ok .ensures) ∙ c .if1 .left)
+    refl refl refl
 
 pub is-sound-spec : {M : Type 1} → statement M
 is-sound-spec =
     tie.close
     (tie.spec (λ c κs. search needs) (λ c κs. search needs) (λ c κs. search needs) (λ c κs. search needs) (λ c κs. search needs)
-    (λ c κs. search needs) (λ c κs. search needs) (λ c κs. search needs) (λ c κs. search needs) returns)
+    returns returns-2 returns-3 returns-4 returns-5)

@@ -15,7 +15,7 @@ turn-requires c κs =
     let told = c .before in
     let four = sym (length-map (start .args .self .places) _) ∙ start .good .0 .1 .1 .1 .1 .1 .0 .1 .0 .1 in
     let ok = found-ok (start .args .partner) (start .args .self .places) _ (sym (sought .seek .ensures) ∙ told .place .given .1) in
-    omega (arith, four, ok .0)
+    (omega (arith, four, ok .0), ok .2)
 
 returns : tie.Need-returns
 returns c =

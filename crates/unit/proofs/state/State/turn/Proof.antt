@@ -1,38 +1,27 @@
 -- The turn of the place is taken or refused.
 use borrow.Author.Needs.{needs}
-use mathlib.Core.Path.{sym, ap, _∙_}
-use mathlib.Core.Bool.{true, false}
-use mathlib.Core.List.{map}
-use Rattle.place.specs.Table.{numbers, placeAfter}
-use Rattle.unit.specs.Steps.{act, setAt, turned}
-use Rattle.unit.proofs.Rules.{turned-is}
+use Rattle.place.specs.Table.{turn}
+use Rattle.unit.proofs.Turning.{turned-set, turned-refused}
 use Rattle.unit.proofs.state.State.turn.Statement.{statement}
 use Rattle.unit.proofs.state.State.turn.Tie as tie
 
 returns : tie.Need-returns
 returns c =
-    let start = c .before .before .before .before .before .before .before in
-    let turning = c .before .before .before .before in
-    let asked = c .before .before .before in
-    let found = c .before .before .before .before .before in
-    let self = start .args .self in
-    let t = turning .turn .result in
-    let placed = c .before .after .ensures ∙ ap (λ place. placeAfter place t) (found .place-at .ensures) in
-    c .set-place .ensures
-    ∙ ap (λ place. setAt self (start .args .at) place (map (act (start .args .partner)) (numbers t))) placed
-    ∙ sym (turned-is self _ (start .args .phase) _ t true (sym (asked .is-taken .ensures) ∙ c .before .before .if1 .taken))
-    ∙ ap (turned self (start .args .at) (start .args .phase) (start .args .partner)) (turning .turn .ensures)
+    let start = c .before .before .before .before .before .before in
+    let a = start .args in
+    turned-set (a .self) (a .at) (a .phase) (a .partner) (a .event) _ _ (c .before .before .before .before .place-at .ensures) (start .pre .1)
+    (c .before .before .before .turn .ensures)
+    (c .before .before .if1 .taken) _
+    (c .set-place .ensures)
 
 returns-2 : tie.Need-returns-2
 returns-2 c =
-    let start = c .before .before .before .before .before .before in
-    let turning = c .before .before .before in
-    let asked = c .before .before in
-    let self = start .args .self in
-    let t = turning .turn .result in
-    c .refuse-at .ensures
-    ∙ sym (turned-is self _ (start .args .phase) (start .args .partner) t false (sym (asked .is-taken .ensures) ∙ c .before .if1 .left))
-    ∙ ap (turned self (start .args .at) (start .args .phase) (start .args .partner)) (turning .turn .ensures)
+    let start = c .before .before .before .before .before in
+    let a = start .args in
+    turned-refused (a .self) (a .at) (a .phase) (a .partner) (a .event) _ _ (c .before .before .before .place-at .ensures) (start .pre .1)
+    (c .before .before .turn .ensures)
+    (c .before .if1 .left) _
+    (c .refuse-at .ensures)
 
 pub turn-spec : {M : Type 1} → statement M
-turn-spec = tie.close (tie.spec (λ c κs. search needs) (λ c κs. search needs) (λ c κs. search needs) (λ c κs. search needs) (λ c κs. search needs) (λ c κs. search needs) returns returns-2)
+turn-spec = tie.close (tie.spec (λ c κs. c .before .pre .0) (λ c κs. search needs) (λ c κs. search needs) (λ c κs. search needs) returns returns-2)
