@@ -1,5 +1,6 @@
-// The bodies of `show_image` and `show_images` (file stored), of `mend_image` and `mend_images` (file mended), and of `explain` and `explains`: a line for each record of a log, which is
-// shown before it is applied, then why the log ends there, the places as they stand, and the last known RBC. It cold starts with X from 1 to 2 and three tries, as `sheet` does.
+// The bodies of `show_image` and `show_images` (file stored), of `mend_image` and `mend_images` (file mended), and of `explain` and
+// `explains`: a line for each record of a log, which is shown before it is applied, then why the log ends there, the places as they stand,
+// and the last known RBC. It cold starts with X from 1 to 2 and three tries, as `sheet` does.
 pub mod mended;
 mod print;
 mod show;

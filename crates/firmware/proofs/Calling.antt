@@ -2,7 +2,7 @@
 -- Proves: onImage-no-room, onImage-unread, onImage-steps, onImage-none, onImage-few, onImage-sound, onImage-next, call-refused, call-done,
 -- refused-nothing, read-long, imaged-whole, next-written, refused-step, few-step, done-step.
 use mathlib.Core.Path.{_≡_, refl, sym, ap, ap₂, _∙_}
-use mathlib.Core.Bool.{true, cond}
+use mathlib.Core.Bool.{Bool, true, false, cond}
 use mathlib.Core.List.{List, [], _++_}
 use Prim.Native.Nat.{ℕ, _≤_, _<_}
 use native.Mathlib.Omega.{arith}
@@ -30,88 +30,80 @@ use Rattle.image.proofs.Rescuing.{image-whole}
 use Rattle.firmware.specs.Calls.{steppedFrom, onImage, returned, imageAfter}
 
 module _ (image bytes : List ℕ) (room : ℕ) where
+  -- a call by whether the buffer has room, and by whether the image reads
+  abbrev byRoom : Bool → Outcome
+  byRoom b = cond b (steppedFrom (readA2 image) bytes room) (refused noRoom (readA2 image .state))
+
+  abbrev byReading : Bool → Outcome
+  byReading b = cond b (onRecord (readA2 image .state) bytes room) (refused (readA2 image .code) (readA2 image .state))
+
   pub onImage-no-room : room < actionRoom → onImage image bytes room ≡ refused noRoom (readA2 image .state)
   unfolding onImage
-  onImage-no-room small =
-      ap (λ b. cond b (steppedFrom (readA2 image) bytes room) (refused noRoom (readA2 image .state))) (lt-leb actionRoom room small)
+  onImage-no-room small = ap byRoom (lt-leb actionRoom room small)
 
   module _ (enough : actionRoom ≤ room) where
     read-first : onImage image bytes room ≡ steppedFrom (readA2 image) bytes room
     unfolding onImage
-    read-first =
-        ap (λ b. cond b (steppedFrom (readA2 image) bytes room) (refused noRoom (readA2 image .state))) (le-leb actionRoom room enough)
+    read-first = ap byRoom (le-leb actionRoom room enough)
 
     pub onImage-unread :
         (readA2 image .code ≡ accepted → ⊥)
         → onImage image bytes room ≡ refused (readA2 image .code) (readA2 image .state)
-    onImage-unread other =
-        read-first
-        ∙ ap (λ b. cond b (onRecord (readA2 image .state) bytes room) (refused (readA2 image .code) (readA2 image .state)))
-        (ne-eqb (readA2 image .code) accepted other)
+    onImage-unread other = read-first ∙ ap byReading (ne-eqb (readA2 image .code) accepted other)
 
     pub onImage-steps : readA2 image .code ≡ accepted → onImage image bytes room ≡ onRecord (readA2 image .state) bytes room
-    onImage-steps read =
-        read-first
-        ∙ ap (λ b. cond b (onRecord (readA2 image .state) bytes room) (refused (readA2 image .code) (readA2 image .state)))
-        (eq-eqb (readA2 image .code) accepted read)
+    onImage-steps read = read-first ∙ ap byReading (eq-eqb (readA2 image .code) accepted read)
+
+  -- what holds of the step, of the refusal to read and of that for want of room holds of a call
+  by-way : (P : Outcome → Type 0)
+      → (eqb (readA2 image .code) accepted ≡ true → P (onRecord (readA2 image .state) bytes room))
+      → (eqb (readA2 image .code) accepted ≡ false → P (refused (readA2 image .code) (readA2 image .state)))
+      → P (refused noRoom (readA2 image .state))
+      → P (onImage image bytes room)
+  unfolding onImage
+  by-way P reads unread short =
+      let read-or-not = cond-case P (eqb (readA2 image .code) accepted) _ _ reads unread in
+      cond-case P (leb actionRoom room) _ _ (λ enough. read-or-not) (λ small. short)
+
+  -- an image that does not read is not accepted
+  unaccepted : {A : Type 0} → eqb (readA2 image .code) accepted ≡ false → readA2 image .code ≡ accepted → A
+  unaccepted unread ok = true-false (eqb (readA2 image .code) accepted) (eq-eqb (readA2 image .code) accepted ok) unread
 
   -- whatever the way: a refused one has no action, an accepted one a sound state
   abbrev Refused : Outcome → Type 0
   Refused o = (o .code ≡ accepted → ⊥) → o .actions ≡ []
 
   pub onImage-none : Refused (onImage image bytes room)
-  unfolding onImage
   onImage-none =
-      cond-case Refused (leb actionRoom room) (steppedFrom (readA2 image) bytes room) (refused noRoom (readA2 image .state))
-      (λ enough.
-      cond-case Refused (eqb (readA2 image .code) accepted) (onRecord (readA2 image .state) bytes room)
-      (refused (readA2 image .code) (readA2 image .state))
-      (λ read other. onRecord-kept (readA2 image .state) bytes room other .1)
-      (λ unread other. refl))
-      (λ short other. refl)
+      by-way Refused (λ read other. onRecord-kept (readA2 image .state) bytes room other .1)
+      (λ unread other. refl)
+      (λ other. refl)
 
   abbrev Few : Outcome → Type 0
   Few o = length (o .actions) ≤ 4
 
   pub onImage-few : Few (onImage image bytes room)
-  unfolding onImage
   onImage-few =
-      cond-case Few (leb actionRoom room) (steppedFrom (readA2 image) bytes room) (refused noRoom (readA2 image .state))
-      (λ enough.
-      cond-case Few (eqb (readA2 image .code) accepted) (onRecord (readA2 image .state) bytes room)
-      (refused (readA2 image .code) (readA2 image .state))
-      (λ read. onRecord-few (readA2 image .state) bytes room)
-      (λ unread. omega arith))
-      (λ short. omega arith)
+      by-way Few (λ read. onRecord-few (readA2 image .state) bytes room)
+      (λ unread. omega arith)
+      (omega arith)
 
   abbrev Good : Outcome → Type 0
   Good o = o .code ≡ accepted → sound (o .state) ≡ true
 
   pub onImage-sound : Good (onImage image bytes room)
-  unfolding onImage
-  onImage-sound =
-      cond-case Good (leb actionRoom room) (steppedFrom (readA2 image) bytes room) (refused noRoom (readA2 image .state))
-      (λ enough.
-      cond-case Good (eqb (readA2 image .code) accepted) (onRecord (readA2 image .state) bytes room)
-      (refused (readA2 image .code) (readA2 image .state))
-      (λ read ok.
-      onRecord-sound (readA2 image .state) bytes room (writtenA2-read image (eqb-true (readA2 image .code) accepted read) .0))
-      (λ unread ok. true-false (eqb (readA2 image .code) accepted) (eq-eqb (readA2 image .code) accepted ok) unread))
-      (λ short ok. absurd (omega arith))
+  onImage-sound = by-way Good stepped-sound unaccepted (λ ok. absurd (omega arith))
+    where
+      stepped-sound : eqb (readA2 image .code) accepted ≡ true → Good (onRecord (readA2 image .state) bytes room)
+      stepped-sound read ok =
+          let held = writtenA2-read image (eqb-true (readA2 image .code) accepted read) in
+          onRecord-sound (readA2 image .state) bytes room (held .0)
 
   abbrev Next : Outcome → Type 0
   Next o = o .code ≡ accepted → o .state ≡ onRecord (readA2 image .state) bytes room .state
 
   pub onImage-next : Next (onImage image bytes room)
-  unfolding onImage
-  onImage-next =
-      cond-case Next (leb actionRoom room) (steppedFrom (readA2 image) bytes room) (refused noRoom (readA2 image .state))
-      (λ enough.
-      cond-case Next (eqb (readA2 image .code) accepted) (onRecord (readA2 image .state) bytes room)
-      (refused (readA2 image .code) (readA2 image .state))
-      (λ read ok. refl)
-      (λ unread ok. true-false (eqb (readA2 image .code) accepted) (eq-eqb (readA2 image .code) accepted ok) unread))
-      (λ short ok. absurd (omega arith))
+  onImage-next = by-way Next (λ read ok. refl) unaccepted (λ ok. absurd (omega arith))
 
 -- what a refused outcome gives to C: minus its number, and nothing written
 module _ (o : Outcome) (image : List ℕ) where
@@ -148,7 +140,10 @@ read-long image read =
     let own = writtenA2-read image read in
     ap length (sym (own .1)) ∙ imageA2-length (readA2 image .state) (sound-facts (readA2 image .state) (own .0) .four)
 
-pub imaged-whole : (s : State) (image : List ℕ) → sound s ≡ true → length image ≡ sizeA2 → imagedA2 s image ≡ imageA2 s
+pub imaged-whole : (s : State) (image : List ℕ)
+    → sound s ≡ true
+    → length image ≡ sizeA2
+    → imagedA2 s image ≡ imageA2 s
 unfolding imagedA2
 imaged-whole s image good long =
     let fits = le-leb sizeA2 (length image) (omega arith) in

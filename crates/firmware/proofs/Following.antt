@@ -159,7 +159,9 @@ done-returned o = by (o .code)
         let other = ne-eqb (suc k) accepted (λ h. absurd (omega arith)) in
         ap (λ t. isAccepted (cond t (pos (length (o .actions))) (negℤ (pos (suc k))))) other ∙ sym other
 
-count-of : (o : Outcome) → ((o .code ≡ accepted → ⊥) → o .actions ≡ []) → countOf (returned o) ≡ length (o .actions)
+count-of : (o : Outcome)
+    → ((o .code ≡ accepted → ⊥) → o .actions ≡ [])
+    → countOf (returned o) ≡ length (o .actions)
 count-of o none = by (o .code) refl
   where
     by : (k : ℕ)

@@ -84,7 +84,11 @@ unfolding sumOne some
 some-sum T [] there = true-false false there refl
 some-sum T (p ∷ ps) there = by (T p) refl there (some-sum T ps)
   where
-    by : (b : Bool) → T p ≡ b → (b || some T ps) ≡ true → (some T ps ≡ true → 1 ≤ sumOne T ps) → 1 ≤ one b + sumOne T ps
+    by : (b : Bool)
+        → T p ≡ b
+        → (b || some T ps) ≡ true
+        → (some T ps ≡ true → 1 ≤ sumOne T ps)
+        → 1 ≤ one b + sumOne T ps
     by true is h more = omega arith
     by false is h more =
         let rest = more h in
@@ -123,7 +127,8 @@ not-zero Open = refl
 not-zero (Lost t) = refl
 not-zero (Ending t) = refl
 
-waiting-number : (ph : Phase) → (not (eqb (phaseNumber ph) 0) && not (eqb (phaseNumber ph) (phaseNumber Open))) ≡ waitingPhase ph
+waiting-number : (ph : Phase)
+    → (not (eqb (phaseNumber ph) 0) && not (eqb (phaseNumber ph) (phaseNumber Open))) ≡ waitingPhase ph
 waiting-number (Connecting t) = refl
 waiting-number (Contacting t) = refl
 waiting-number Open = refl
@@ -140,7 +145,8 @@ held-of : (k : Holding) → OfBytes (λ phase q. not (eqb phase 0)) k ≡ not (i
 held-of Free = refl
 held-of (Held d ph p) = not-zero ph
 
-holds-of : (p : Partner) (k : Holding) → OfBytes (λ phase q. not (eqb phase 0) && samePartner p q) k ≡ holds p (record { holding = k })
+holds-of : (p : Partner) (k : Holding)
+    → OfBytes (λ phase q. not (eqb phase 0) && samePartner p q) k ≡ holds p (record { holding = k })
 holds-of p Free = refl
 holds-of p (Held d ph q) = ap (λ b. b && samePartner p q) (not-zero ph)
 
@@ -152,7 +158,8 @@ waits-of p (Held d ph q) = ap (λ b. b && samePartner p q) (waiting-number ph) �
 
 -- the places of the image of a state
 module _ (s : State) (four : length (s .places) ≡ placeCount) where
-  seats : (test : ℕ → Partner → Bool) → placesSeen test (imageA2 s) ≡ sumOne (λ p. OfBytes test (p .holding)) (s .places)
+  seats : (test : ℕ → Partner → Bool)
+      → placesSeen test (imageA2 s) ≡ sumOne (λ p. OfBytes test (p .holding)) (s .places)
   unfolding imageA2 wholeBytes bodyBytes
   seats test =
       ap (λ k. placesPassing test k (placesBytes (s .places) ++ tailBytes s)) (sym four)

@@ -42,7 +42,8 @@ module _ (l : Limits) (ok : limitsOk l ≡ true) where
   lowest-small : l .lowest ≤ highestX
   lowest-small =
       let tried = leb 1 (l .tries) && leb (l .tries) mostTries in
-      let h = leb-true (l .lowest) (l .highest) (and-left (leb (l .lowest) (l .highest)) (leb (l .highest) highestX && tried) ok) in
+      let first = and-left (leb (l .lowest) (l .highest)) (leb (l .highest) highestX && tried) ok in
+      let h = leb-true (l .lowest) (l .highest) first in
       let g = highest-small in
       omega arith
 
@@ -60,39 +61,42 @@ refused-alike l m bad also =
     none = record { code = badLimits; state = cold noLimits }
 
 module _ (lowest highest tries : ℕ) where
-  same-given : limitsOk (limitsOf lowest highest tries) ≡ true
-      → limitsOf (Byte lowest) (Byte highest) (Byte tries) ≡ limitsOf lowest highest tries
+  -- the limits as they are given, and as bytes
+  abbrev given : Limits
+  given = limitsOf lowest highest tries
+
+  abbrev clamped : Limits
+  clamped = limitsOf (Byte lowest) (Byte highest) (Byte tries)
+
+  same-given : limitsOk given ≡ true → clamped ≡ given
   same-given ok =
-      let l = limitsOf lowest highest tries in
       λ i.
       record {
-        lowest = own lowest highestX (omega arith) (lowest-small l ok) i;
-        highest = own highest highestX (omega arith) (highest-small l ok) i;
-        tries = own tries mostTries (omega arith) (tries-small l ok) i;
+        lowest = own lowest highestX (omega arith) (lowest-small given ok) i;
+        highest = own highest highestX (omega arith) (highest-small given ok) i;
+        tries = own tries mostTries (omega arith) (tries-small given ok) i;
       }
 
-  same-bytes : limitsOk (limitsOf (Byte lowest) (Byte highest) (Byte tries)) ≡ true
-      → limitsOf (Byte lowest) (Byte highest) (Byte tries) ≡ limitsOf lowest highest tries
+  same-bytes : limitsOk clamped ≡ true → clamped ≡ given
   same-bytes ok =
-      let l = limitsOf (Byte lowest) (Byte highest) (Byte tries) in
       λ i.
       record {
-        lowest = small lowest highestX (omega arith) (lowest-small l ok) i;
-        highest = small highest highestX (omega arith) (highest-small l ok) i;
-        tries = small tries mostTries (omega arith) (tries-small l ok) i;
+        lowest = small lowest highestX (omega arith) (lowest-small clamped ok) i;
+        highest = small highest highestX (omega arith) (highest-small clamped ok) i;
+        tries = small tries mostTries (omega arith) (tries-small clamped ok) i;
       }
 
   -- limits that are refused are refused either way
-  start-clamped : coldStart (limitsOf (Byte lowest) (Byte highest) (Byte tries)) ≡ coldStart (limitsOf lowest highest tries)
-  start-clamped = by (limitsOk (limitsOf (Byte lowest) (Byte highest) (Byte tries))) (limitsOk (limitsOf lowest highest tries)) refl refl
+  start-clamped : coldStart clamped ≡ coldStart given
+  start-clamped = by (limitsOk clamped) (limitsOk given) refl refl
     where
       by : (a b : Bool)
-          → limitsOk (limitsOf (Byte lowest) (Byte highest) (Byte tries)) ≡ a
-          → limitsOk (limitsOf lowest highest tries) ≡ b
-          → coldStart (limitsOf (Byte lowest) (Byte highest) (Byte tries)) ≡ coldStart (limitsOf lowest highest tries)
+          → limitsOk clamped ≡ a
+          → limitsOk given ≡ b
+          → coldStart clamped ≡ coldStart given
       by true b is also = ap coldStart (same-bytes is)
       by false true is also = ap coldStart (same-given also)
-      by false false is also = refused-alike (limitsOf (Byte lowest) (Byte highest) (Byte tries)) (limitsOf lowest highest tries) is also
+      by false false is also = refused-alike clamped given is also
 
   pub start-bytes : (a b t : ℕ)
       → a ≡ Byte lowest

@@ -57,4 +57,5 @@ module _ (m : Sense) (l : Limits) (σ : Scale) (balanced : Balanced m l σ) (min
   history-account s same [] = level m _ _ (omega arith)
   history-account s same (bytes ∷ history) =
       let o = onRecord s bytes actionRoom in
-      followed m _ _ _ _ _ _ _ (record-account s same bytes) (history-account (o .state) (onRecord-limits s bytes actionRoom ∙ same) history)
+      let rest = history-account (o .state) (onRecord-limits s bytes actionRoom ∙ same) history in
+      followed m _ _ _ _ _ _ _ (record-account s same bytes) rest

@@ -19,7 +19,8 @@ use Rattle.unit.specs.States.{coldStart}
 use Rattle.unit.specs.OnRecords.{actionRoom, onRecord}
 use Rattle.unit.specs.declared.state.State.{State}
 use Rattle.unit.specs.Kept.{count}
-use Rattle.history.specs.Histories.{after, orders, calls, losses, actions, names, perOrder, perCall, perLoss, actionsOf, ordersOf, callsOf, lossesOf}
+use Rattle.history.specs.Histories.{after, orders, calls, losses, actions, names, perOrder, perCall, perLoss}
+use Rattle.history.specs.Histories.{actionsOf, ordersOf, callsOf, lossesOf}
 use Rattle.unit.proofs.Facts.{limits-tries}
 use Rattle.unit.proofs.Starts.{cold-limits}
 use Rattle.unit.proofs.Counts.{count-all}
@@ -72,9 +73,12 @@ module _ (l : Limits) (some-try : 1 ≤ l .tries) where
       + (perOrder n * orders s history + (perCall n * calls s history + perLoss n * losses s history))
   bound-from s own history =
       let account =
-      rated-account (worth n) (λ number. true) (perOrder n) (perCall n) (perLoss n) (λ p. true) (λ s bytes. true) (λ s bytes. whose-any (s .last) (reading bytes)) atMost l
+      rated-account (worth n) (λ number. true) (perOrder n) (perCall n) (perLoss n)
+      (λ p. true) (λ s bytes. true) (λ s bytes. whose-any (s .last) (reading bytes)) atMost l
       (worths-balanced l some-try) (λ a. true) (λ a. refl) s own history in
-      let all = summed-same (λ s bytes o. count (λ a. true) (o .actions)) (λ s bytes o. length (o .actions)) (λ s bytes. count-all (onRecord s bytes actionRoom .actions)) s history in
+      let all =
+      summed-same (λ s bytes o. count (λ a. true) (o .actions)) (λ s bytes o. length (o .actions))
+      (λ s bytes. count-all (onRecord s bytes actionRoom .actions)) s history in
       omega arith
 
   -- and none for a partner but by its own orders, calls and losses
@@ -85,7 +89,8 @@ module _ (l : Limits) (some-try : 1 ≤ l .tries) where
       ≤ total (worths n) (samePartner p) (s .places)
       + (perOrder n * ordersOf p s history + (perCall n * callsOf p s history + perLoss n * lossesOf p s history))
   bound-of-from p s own history =
-      rated-account (worth n) (λ number. true) (perOrder n) (perCall n) (perLoss n) (samePartner p) (names p) (λ s bytes. whose-one p (s .last) (reading bytes)) atMost l
+      rated-account (worth n) (λ number. true) (perOrder n) (perCall n) (perLoss n)
+      (samePartner p) (names p) (λ s bytes. whose-one p (s .last) (reading bytes)) atMost l
       (worths-balanced l some-try) (λ a. samePartner p (a .partner)) (λ a. and-true (samePartner p (a .partner))) s own history
 
 module _ (l : Limits) (started : coldStart l .code ≡ accepted) (history : List (List ℕ)) where
@@ -130,7 +135,8 @@ pub demand-bound : (l : Limits)
     + 5 * calls (coldStart l .state) history
     + 3 * losses (coldStart l .state) history
 demand-bound l three started history =
-    subst (λ n. actions (coldStart l .state) history ≤ perOrder n * orders (coldStart l .state) history + perCall n * calls (coldStart l .state) history + perLoss n * losses (coldStart l .state) history)
+    let s = coldStart l .state in
+    subst (λ n. actions s history ≤ perOrder n * orders s history + perCall n * calls s history + perLoss n * losses s history)
     three
     (bound l started history)
 
@@ -144,6 +150,8 @@ pub demand-bound-of : (p : Partner) (l : Limits)
     + 5 * callsOf p (coldStart l .state) history
     + 3 * lossesOf p (coldStart l .state) history
 demand-bound-of p l three started history =
-    subst (λ n. actionsOf p (coldStart l .state) history ≤ perOrder n * ordersOf p (coldStart l .state) history + perCall n * callsOf p (coldStart l .state) history + perLoss n * lossesOf p (coldStart l .state) history)
+    let s = coldStart l .state in
+    subst (λ n. actionsOf p s history
+    ≤ perOrder n * ordersOf p s history + perCall n * callsOf p s history + perLoss n * lossesOf p s history)
     three
     (bound-of l started history p)

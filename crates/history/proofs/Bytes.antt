@@ -9,7 +9,9 @@ use native.Mathlib.Omega.{arith}
 use lib.Dec.{eqb, leb}
 use lib.ListN.{length}
 use borrow.Author.Tests.{eqb-true, ne-eqb, leb-true}
-use Rattle.record.specs.Records.{Body, messageVersion, messageCall, messageMeans, partnerIn, levelBody, missionBody, modeBody, holeBody, orderBody, partnerBody, endAllBody, messageBody, known, lengthOf, bodies, bodyOf, noBody, reading, readingOk}
+use Rattle.record.specs.Records.{messageVersion, messageCall, messageMeans, partnerIn, known, lengthOf, reading, readingOk}
+use Rattle.record.specs.Records.{Body, levelBody, missionBody, modeBody, holeBody, orderBody, partnerBody, endAllBody}
+use Rattle.record.specs.Records.{messageBody, bodies, bodyOf, noBody}
 use Rattle.wire.specs.Bytes.{byte}
 use Rattle.wire.specs.Refusals.{accepted, wrongLength, unknownKind, outOfRange, notSound}
 use Rattle.record.specs.declared.partner.Partner.{Partner}
@@ -82,7 +84,8 @@ message-tells : (number version : ℕ) (p : Partner) (bytes : List ℕ)
     → isLoss bytes ≡ false
     → TellsEvent bytes (messageMeans number version p)
 message-tells number version p bytes order call loss =
-    cond-case (TellsEvent bytes) (eqb number messageVersion) (Named p (Version version)) (cond (eqb number messageCall) (Call p) (Named p Ended))
+    cond-case (TellsEvent bytes) (eqb number messageVersion) (Named p (Version version))
+    (cond (eqb number messageCall) (Call p) (Named p Ended))
     (λ is. (order, call ∙ ap (λ k. eqb k messageCall) (eqb-true number messageVersion is), loss))
     (λ other.
     cond-case (TellsEvent bytes) (eqb number messageCall) (Call p) (Named p Ended)
@@ -97,7 +100,9 @@ Row kind body = (s : List ℕ) → byte s 0 ≡ kind → body .ranges s ≡ true
 by-first : (kind : ℕ) (body : Body) (s : List ℕ)
     → byte s 0 ≡ kind
     → body .ranges s ≡ true
-    → (isOrder s ≡ isOrder (kind ∷ [])) × (isCall s ≡ isCall (kind ∷ 0 ∷ 0 ∷ 0 ∷ 0 ∷ byte s 5 ∷ [])) × (isLoss s ≡ isLoss (kind ∷ []))
+    → (isOrder s ≡ isOrder (kind ∷ []))
+    × (isCall s ≡ isCall (kind ∷ 0 ∷ 0 ∷ 0 ∷ 0 ∷ byte s 5 ∷ []))
+    × (isLoss s ≡ isLoss (kind ∷ []))
 by-first kind body s e ok =
     (ap (λ k. isOrder (k ∷ [])) e, ap (λ k. isCall (k ∷ 0 ∷ 0 ∷ 0 ∷ 0 ∷ byte s 5 ∷ [])) e, ap (λ k. isLoss (k ∷ [])) e)
 
@@ -126,12 +131,10 @@ unfolding reading
 reading-tells [] = tt
 reading-tells (kind ∷ body) =
     let s = kind ∷ body in
-    cond-holds (Tells s) (known kind) _ (Refused unknownKind)
-    (cond-holds (Tells s) (eqb (length s) (lengthOf kind)) _ (Refused wrongLength)
-    (cond-case (Tells s) (bodyOf kind .ranges s) (Meant (bodyOf kind .means s)) (Refused outOfRange) (numbered-at Row 0 bodies noBody rows-tell (λ i s e ok. true-false false ok refl) kind s (omega arith))
-    (λ outside. tt))
-    tt)
-    tt
+    let row = numbered-at Row 0 bodies noBody rows-tell (λ i s e ok. true-false false ok refl) kind s (omega arith) in
+    let ranged = cond-case (Tells s) (bodyOf kind .ranges s) (Meant (bodyOf kind .means s)) (Refused outOfRange) row (λ outside. tt) in
+    let sized = cond-holds (Tells s) (eqb (length s) (lengthOf kind)) _ (Refused wrongLength) ranged tt in
+    cond-holds (Tells s) (known kind) _ (Refused unknownKind) sized tt
 
 -- a record that reads as no event is not accepted
 abbrev pub Unread : Outcome → Reading → Type 0

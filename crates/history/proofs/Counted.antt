@@ -138,7 +138,8 @@ module _ (weight : Phase → ℕ) (counts : ℕ → Bool) (order call loss : ℕ
   -- what an event brings is its share
   event-share : (mine : Partner → Bool) (s : State) (b ok : Bool) (e : Event)
       → Whose mine (s .last) b (Meant e)
-      → cond ok (brought σ mine s e) 0 ≡ shares ((b && isOrderEvent e) && ok) ((b && isCallEvent e) && ok) ((b && isLossEvent e) && ok)
+      → cond ok (brought σ mine s e) 0
+      ≡ shares ((b && isOrderEvent e) && ok) ((b && isCallEvent e) && ok) ((b && isLossEvent e) && ok)
   event-share mine s b ok (Level level manual) whose = unshared b ok
   event-share mine s b ok (Mission mission) whose = unshared b ok
   event-share mine s b ok Mode whose = unshared b ok
@@ -181,7 +182,9 @@ module _ (weight : Phase → ℕ) (counts : ℕ → Bool) (order call loss : ℕ
             → cond ok (ofMeant (brought σ mine s) r) 0
             ≡ shares ((b && isOrder bytes) && ok) ((b && isCall bytes) && ok) ((b && isLoss bytes) && ok)
         by (Meant e) tells read w = rw (tells .0, tells .1, tells .2) (event-share mine s b ok e w)
-        by (Refused r) tells code w = nothing ok ∙ sym (refused-shares (b && isOrder bytes) (b && isCall bytes) (b && isLoss bytes) ok code)
+        by (Refused r) tells code w =
+            nothing ok
+            ∙ sym (refused-shares (b && isOrder bytes) (b && isCall bytes) (b && isLoss bytes) ok code)
 
     -- and what a history brings
     received-counted : (s : State) (history : List (List ℕ))
@@ -200,7 +203,11 @@ module _ (weight : Phase → ℕ) (counts : ℕ → Bool) (order call loss : ℕ
         → (s : State)
         → s .limits ≡ l
         → (history : List (List ℕ))
-        → Balance m (summed (λ s bytes o. count test (o .actions)) s history + total σ mine (after s history .places)) (total σ mine (s .places) + (order * summed (among who isOrder) s history + (call * summed (among who isCall) s history + loss * summed (among who isLoss) s history)))
+        → Balance m
+        (summed (λ s bytes o. count test (o .actions)) s history + total σ mine (after s history .places))
+        (total σ mine (s .places)
+        + (order * summed (among who isOrder) s history
+        + (call * summed (among who isCall) s history + loss * summed (among who isLoss) s history)))
     rated-account m l balanced test same s own history =
         rw (
           ← summed-same (λ s bytes o. count (counted σ mine) (o .actions)) (λ s bytes o. count test (o .actions))

@@ -1,14 +1,13 @@
 -- Request Q-11: events of different partners give the same state in either order, and each its own same answer.
 -- Proves: either-answers, either-alike, both-last, either-same, later-sets, later-leaves, row-answers, row-alike, row-same.
 use mathlib.Core.Path.{_≡_, refl, sym, ap, ap₂, subst, _∙_}
-use mathlib.Core.Bool.{Bool, true, false, cond, _&&_}
+use mathlib.Core.Bool.{Bool, true, false, _&&_}
 use mathlib.Core.List.{List, [], _∷_, map}
 use Prim.Native.Nat.{ℕ, _+_, _≤_}
 use native.Mathlib.Omega.{arith}
 use lib.Dec.{lit≤}
-use Rattle.record.specs.Partners.{samePartner}
+use Rattle.record.specs.declared.event.Event.{Event}
 use Rattle.record.specs.declared.event.Event.the-variants.{Named}
-use Rattle.wire.proofs.Tests.{true-false}
 use Rattle.unit.specs.Lasts.{toRbc, recalled}
 use Rattle.unit.specs.States.{sound}
 use Rattle.unit.specs.Steps.{step}
@@ -23,29 +22,39 @@ use Rattle.unit.proofs.Recalled.{recalled-none, onRecord-last}
 use Rattle.unit.proofs.Effects.{onRecord-step}
 use Rattle.unit.proofs.Sound.{onRecord-sound}
 use Rattle.history.specs.Histories.{endOf, after}
-use Rattle.history.specs.EitherOrder.{Delivered, recordsOf, Differ, DifferAll, Different, versions, Compared, answerOf, next, alone, Alike, Permuted}
-use Rattle.history.specs.EitherOrder.{empty, keeps, swaps, joins}
+use Rattle.history.specs.EitherOrder.{Delivered, recordsOf, Differ, DifferAll, Different, versions, Compared}
+use Rattle.history.specs.EitherOrder.{answerOf, next, alone, Alike, Permuted, empty, keeps, swaps, joins}
 
 next-sound : (s : State) → sound s ≡ true → (x : Delivered) → sound (next s x) ≡ true
 next-sound s ok x = onRecord-sound s (x .bytes) actionRoom ok
 
+-- what the record reads as
+abbrev eventOf : Delivered → Event
+eventOf x = Named (x .partner) (x .event)
+
 -- the step on the record is the step on its event
-stepped : (s : State) → sound s ≡ true → (x : Delivered) → onRecord s (x .bytes) actionRoom ≡ step s (Named (x .partner) (x .event))
-stepped s ok x = onRecord-step s (x .bytes) actionRoom (Named (x .partner) (x .event)) (lit≤ tt) ok (x .means)
+stepped : (s : State)
+    → sound s ≡ true
+    → (x : Delivered)
+    → onRecord s (x .bytes) actionRoom ≡ step s (eventOf x)
+stepped s ok x = onRecord-step s (x .bytes) actionRoom (eventOf x) (lit≤ tt) ok (x .means)
+
+-- the second record, as a step on its event after the first's
+second : (s : State)
+    → sound s ≡ true
+    → (x y : Delivered)
+    → onRecord (next s x) (y .bytes) actionRoom ≡ step (step s (eventOf x) .state) (eventOf y)
+second s ok x y =
+    stepped (next s x) (next-sound s ok x) y
+    ∙ ap (λ o. step (o .state) (eventOf y)) (stepped s ok x)
 
 module _ (s : State) (ok : sound s ≡ true) (x y : Delivered) where
-  -- the second record, as a step on its event after the first's
-  second : onRecord (next s x) (y .bytes) actionRoom ≡ step (step s (Named (x .partner) (x .event)) .state) (Named (y .partner) (y .event))
-  second =
-      stepped (next s x) (next-sound s ok x) y
-      ∙ ap (λ o. step (o .state) (Named (y .partner) (y .event))) (stepped s ok x)
-
   -- "each its own same number and actions": what comes second gets what it gets first
   -- promise
   pub either-answers : Differ x y → alone (next s x) y ≡ alone s y
   either-answers other =
       let alike = second-alike s (x .partner) (y .partner) (x .event) (y .event) other .answers in
-      ap answerOf second
+      ap answerOf (second s ok x y)
       ∙ (λ i. record { code = alike .0 i; standing = alike .1 i; actions = alike .2 i })
       ∙ sym (ap answerOf (stepped s ok y))
 
@@ -53,14 +62,12 @@ module _ (s : State) (ok : sound s ≡ true) (x y : Delivered) where
   -- promise
   pub either-alike : Differ x y → Alike (next (next s x) y) (next (next s y) x)
   either-alike other =
-      let e = Named (x .partner) (x .event) in
-      let f = Named (y .partner) (y .event) in
-      let xy = ap (λ o. o .state) second in
-      let yx = ap (λ o. o .state) (reversed) in
+      let xy = ap (λ o. o .state) (second s ok x y) in
+      let yx = ap (λ o. o .state) (second s ok y x) in
       let one = named-rest s (x .partner) (x .event) in
       let two = named-rest s (y .partner) (y .event) in
-      let one-two = named-rest (step s e .state) (y .partner) (y .event) in
-      let two-one = named-rest (step s f .state) (x .partner) (x .event) in (
+      let one-two = named-rest (step s (eventOf x) .state) (y .partner) (y .event) in
+      let two-one = named-rest (step s (eventOf y) .state) (x .partner) (x .event) in (
         ap (λ t. t .limits) xy ∙ one-two .2 ∙ one .2 ∙ sym (ap (λ t. t .limits) yx ∙ two-one .2 ∙ two .2),
         ap (λ t. t .train) xy ∙ one-two .0 ∙ one .0 ∙ sym (ap (λ t. t .train) yx ∙ two-one .0 ∙ two .0),
         ap (λ t. t .marks) xy ∙ one-two .1 ∙ one .1 ∙ sym (ap (λ t. t .marks) yx ∙ two-one .1 ∙ two .1),
@@ -68,23 +75,23 @@ module _ (s : State) (ok : sound s ≡ true) (x y : Delivered) where
             ∙ either-places s (x .partner) (y .partner) (x .event) (y .event) other
             ∙ sym (ap (λ t. t .places) yx),
       )
-    where
-      reversed : onRecord (next s y) (x .bytes) actionRoom ≡ step (step s (Named (y .partner) (y .event)) .state) (Named (x .partner) (x .event))
-      reversed =
-          stepped (next s y) (next-sound s ok y) x
-          ∙ ap (λ o. step (o .state) (Named (x .partner) (x .event))) (stepped s ok y)
 
   -- the last known RBC after both: what the actions of the first, then of the second, leave
   pub both-last : Differ x y
       → next (next s x) y .last
       ≡ recalled (recalled (s .last) (alone s x .actions)) (alone s y .actions)
   both-last other =
-      ap (λ o. o .state .last) second
+      ap (λ o. o .state .last) (second s ok x y)
       ∙ either-last s (x .partner) (y .partner) (x .event) (y .event) other
       ∙ ap₂ (λ a b. recalled (recalled (s .last) (a .actions)) (b .actions)) (sym (stepped s ok x)) (sym (stepped s ok y))
 
 -- a record that is no message 32 leaves it
-still : (s : State) → sound s ≡ true → (x : Delivered) → isVersion (x .event) ≡ false → (last : Last) → recalled last (alone s x .actions) ≡ last
+still : (s : State)
+    → sound s ≡ true
+    → (x : Delivered)
+    → isVersion (x .event) ≡ false
+    → (last : Last)
+    → recalled last (alone s x .actions) ≡ last
 still s ok x other last =
     ap (λ o. recalled last (o .actions)) (stepped s ok x) ∙ quiet-last s (x .partner) (x .event) other last
 
@@ -114,7 +121,10 @@ module _ (s : State) (ok : sound s ≡ true) (x y : Delivered) (other : Differ x
       yx : next (next s y) x .last ≡ recalled (recalled (s .last) (alone s y .actions)) (alone s x .actions)
       yx = both-last s ok y x (other-sym (x .partner) (y .partner) other)
 
-      by : (b : Bool) → isVersion (x .event) ≡ b → (b && isVersion (y .event)) ≡ false → next (next s x) y .last ≡ next (next s y) x .last
+      by : (b : Bool)
+          → isVersion (x .event) ≡ b
+          → (b && isVersion (y .event)) ≡ false
+          → next (next s x) y .last ≡ next (next s y) x .last
       by true is second-not =
           xy
           ∙ still s ok y second-not (recalled (s .last) (alone s x .actions))
@@ -143,7 +153,11 @@ module _ (s : State) (ok : sound s ≡ true) (x y : Delivered) (other : Differ x
       ∙ sym (onRecord-last s (x .bytes) actionRoom)
 
 -- each record of a row gets what it gets alone, so the same in any order
-alone-after : (s : State) → sound s ≡ true → (x : Delivered) (ys : List Delivered) → DifferAll x ys → map (alone (next s x)) ys ≡ map (alone s) ys
+alone-after : (s : State)
+    → sound s ≡ true
+    → (x : Delivered) (ys : List Delivered)
+    → DifferAll x ys
+    → map (alone (next s x)) ys ≡ map (alone s) ys
 unfolding DifferAll
 alone-after s ok x [] other = refl
 alone-after s ok x (y ∷ ys) other = ap₂ _∷_ (either-answers s ok x y (other .0)) (alone-after s ok x ys (other .1))
@@ -160,9 +174,13 @@ row-answers s ok (x ∷ xs) different =
     ap (_∷_ (alone s x)) (row-answers (next s x) (next-sound s ok x) xs (different .1) ∙ alone-after s ok x xs (different .0))
 
 -- states that are alike stay so through a row: no such record looks at the last known RBC
-alike-next : (s t : State) → sound s ≡ true → sound t ≡ true → Alike s t → (x : Delivered) → Alike (next s x) (next t x)
+alike-next : (s t : State)
+    → sound s ≡ true
+    → sound t ≡ true
+    → Alike s t
+    → (x : Delivered)
+    → Alike (next s x) (next t x)
 alike-next s t ok fine alike x =
-    let e = Named (x .partner) (x .event) in
     let here = ap (λ o. o .state) (stepped s ok x) in
     let there = ap (λ o. o .state) (stepped t fine x) in
     let mine = named-rest s (x .partner) (x .event) in
@@ -178,7 +196,12 @@ alike-next s t ok fine alike x =
           ∙ sym (ap (λ u. u .places) there ∙ follows .there),
     )
 
-alike-after : (s t : State) → sound s ≡ true → sound t ≡ true → Alike s t → (xs : List Delivered) → Alike (after s (recordsOf xs)) (after t (recordsOf xs))
+alike-after : (s t : State)
+    → sound s ≡ true
+    → sound t ≡ true
+    → Alike s t
+    → (xs : List Delivered)
+    → Alike (after s (recordsOf xs)) (after t (recordsOf xs))
 unfolding after endOf trace
 alike-after s t ok fine alike [] = alike
 alike-after s t ok fine alike (x ∷ xs) =
@@ -227,7 +250,9 @@ row-alike s ok (swaps x y xs) different =
     (either-alike s ok x y (different .0 .0))
     xs
 row-alike s ok (joins {xs = xs} {ys = ys} {zs = zs} p q) different =
-    alike-same (after s (recordsOf xs)) (after s (recordsOf ys)) (after s (recordsOf zs)) (row-alike s ok p different) (row-alike s ok q (different-permuted p different))
+    let first = row-alike s ok p different in
+    let then = row-alike s ok q (different-permuted p different) in
+    alike-same (after s (recordsOf xs)) (after s (recordsOf ys)) (after s (recordsOf zs)) first then
 
 -- and the whole state where at most one is message 32
 -- promise

@@ -81,7 +81,11 @@ module _ (l : Limits) (k : Numbers) (some-try : 1 ≤ l .tries) (fair : Fair (l 
   -- nor any cell of the table, with what its column brings
   rows : (ph : Phase) (v : ℕ) → Beside (λ c b. Turned atMost σ ph b (play l ph v c)) (table ph) (σ .columns)
   rows (Connecting t) v =
-      omega arith ▹ omega arith ▹ omega arith ▹ again-turned atMost l σ _ (Connecting t) 0 (omega arith) (omega arith) ▹ omega arith
+      omega arith
+      ▹ omega arith
+      ▹ omega arith
+      ▹ again-turned atMost l σ _ (Connecting t) 0 (omega arith) (omega arith)
+      ▹ omega arith
   rows (Contacting t) v =
       omega arith
       ▹ omega arith
@@ -91,9 +95,17 @@ module _ (l : Limits) (k : Numbers) (some-try : 1 ≤ l .tries) (fair : Fair (l 
       ▹ omega arith
   rows Open v = omega arith
   rows (Lost t) v =
-      omega arith ▹ omega arith ▹ omega arith ▹ again-turned atMost l σ _ (Lost t) 0 (omega arith) (omega arith) ▹ omega arith
+      omega arith
+      ▹ omega arith
+      ▹ omega arith
+      ▹ again-turned atMost l σ _ (Lost t) 0 (omega arith) (omega arith)
+      ▹ omega arith
   rows (Ending t) v =
-      omega arith ▹ omega arith ▹ omega arith ▹ again-turned atMost l σ _ (Ending t) 0 (omega arith) (omega arith) ▹ omega arith
+      omega arith
+      ▹ omega arith
+      ▹ omega arith
+      ▹ again-turned atMost l σ _ (Ending t) 0 (omega arith) (omega arith)
+      ▹ omega arith
 
   -- nor does an order or a call
   pub falling-balanced : Balanced atMost l (fallings (l .tries) k)

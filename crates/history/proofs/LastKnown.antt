@@ -1,10 +1,10 @@
 -- Request Q-2 along a history: the last known RBC is that of the most recent 159 to an RBC, and the reserved number is never held and
 -- never named.
--- Proves: last-recent, last-none, never-held, never-known, never-named.
+-- Proves: last-recent, last-none, reserved-never-held, reserved-never-known, reserved-never-named.
 use mathlib.Core.Path.{_≡_, refl, sym, ap, _∙_}
 use mathlib.Core.Bool.{true, false, cond}
 use mathlib.Core.List.{List, [], _∷_, _++_}
-use Prim.Native.Nat.{ℕ, _+_, _<_}
+use Prim.Native.Nat.{ℕ, _<_}
 use native.Mathlib.Omega.{arith}
 use lib.ListN.{getD}
 use Rattle.record.specs.Partners.{reserved}
@@ -16,7 +16,6 @@ use Rattle.unit.specs.Lasts.{toRbc, recalledBy, recalled}
 use Rattle.unit.specs.States.{placeCount, limitsOk, sound, noLimits, cold, coldStart}
 use Rattle.unit.specs.OnRecords.{trace, actionRoom, onRecord}
 use Rattle.unit.specs.Kept.{count}
-use Rattle.unit.specs.declared.last.Last.{Last}
 use Rattle.unit.specs.declared.last.Last.the-variants.{Unknown, Known}
 use Rattle.unit.specs.declared.start.Started.{Started}
 use Rattle.unit.specs.declared.state.State.{State}
@@ -81,18 +80,23 @@ module _ (l : Limits) (history : List (List ℕ)) where
 
   -- "No RBC in a place .. may have that value": no state reached from a cold start has one
   -- promise
-  pub never-held : (i : ℕ) → i < placeCount → reserved (partnerOf (getD (after (coldStart l .state) history .places) i vacant)) ≡ false
-  never-held = sound-places (after (coldStart l .state) history) end-sound
+  pub reserved-never-held : (i : ℕ)
+      → i < placeCount
+      → reserved (partnerOf (getD (after (coldStart l .state) history .places) i vacant)) ≡ false
+  reserved-never-held = sound-places (after (coldStart l .state) history) end-sound
 
   -- nor as the last known
   -- promise
-  pub never-known : (high middle low : ℕ)
+  pub reserved-never-known : (high middle low : ℕ)
       → after (coldStart l .state) history .last ≡ Known high middle low
       → reserved (record { kind = 0; high = high; middle = middle; low = low }) ≡ false
-  never-known = sound-last (after (coldStart l .state) history) end-sound
+  reserved-never-known = sound-last (after (coldStart l .state) history) end-sound
 
 -- no action from a sound state names it
-named-along : (s : State) → sound s ≡ true → (history : List (List ℕ)) → count (λ a. reserved (a .partner)) (sent s history) ≡ 0
+named-along : (s : State)
+    → sound s ≡ true
+    → (history : List (List ℕ))
+    → count (λ a. reserved (a .partner)) (sent s history) ≡ 0
 unfolding sent sentBy trace count
 named-along s ok [] = refl
 named-along s ok (bytes ∷ history) =
@@ -104,5 +108,6 @@ named-along s ok (bytes ∷ history) =
 
 -- nor from a cold start
 -- promise
-pub never-named : (l : Limits) (history : List (List ℕ)) → count (λ a. reserved (a .partner)) (sent (coldStart l .state) history) ≡ 0
-never-named l = named-along (coldStart l .state) (cold-sound l)
+pub reserved-never-named : (l : Limits) (history : List (List ℕ))
+    → count (λ a. reserved (a .partner)) (sent (coldStart l .state) history) ≡ 0
+reserved-never-named l = named-along (coldStart l .state) (cold-sound l)

@@ -9,7 +9,8 @@ use lib.ListN.{length}
 use Rattle.unit.specs.Steps.{Outcome}
 use Rattle.unit.specs.OnRecords.{trace, actionRoom, onRecord}
 use Rattle.unit.specs.declared.state.State.{State}
-use Rattle.history.specs.Histories.{endOf, sumOver, after, summed, isOrder, isCall, isLoss, acceptedAs, orders, calls, losses, actions}
+use Rattle.history.specs.Histories.{endOf, sumOver, after, summed, orders, calls, losses, actions}
+use Rattle.history.specs.Histories.{isOrder, isCall, isLoss, acceptedAs}
 use Rattle.history.specs.Reaching.{repeated}
 
 -- a history after another
@@ -43,7 +44,11 @@ stays s = record { ends = refl; ordered = refl; called = refl; lost = refl; acte
 pub begins : (s : State) (bytes : List ℕ) (o : Outcome) (history : List (List ℕ)) (t : State) (a b c k : ℕ)
     → onRecord s bytes actionRoom ≡ o
     → Leads (o .state) history t a b c k
-    → Leads s (bytes ∷ history) t (acceptedAs (λ s. isOrder) s bytes o + a) (acceptedAs (λ s. isCall) s bytes o + b) (acceptedAs (λ s. isLoss) s bytes o + c) (length (o .actions) + k)
+    → Leads s (bytes ∷ history) t
+    (acceptedAs (λ s. isOrder) s bytes o + a)
+    (acceptedAs (λ s. isCall) s bytes o + b)
+    (acceptedAs (λ s. isLoss) s bytes o + c)
+    (length (o .actions) + k)
 unfolding after summed endOf sumOver trace
 begins s bytes o history t a b c k e rest =
     record {
@@ -97,10 +102,16 @@ pub again-and-again : (s : State) (history : List (List ℕ)) (a b c k : ℕ)
     → (times : ℕ)
     → Leads s (repeated times history) s (a * times) (b * times) (c * times) (k * times)
 unfolding repeated
-again-and-again s history a b c k leads zero = counted-as s s [] 0 0 0 0 (a * 0) (b * 0) (c * 0) (k * 0) (stays s) (omega arith) (omega arith) (omega arith) (omega arith)
+again-and-again s history a b c k leads zero =
+    counted-as s s [] 0 0 0 0 (a * 0) (b * 0) (c * 0) (k * 0) (stays s)
+    (omega arith)
+    (omega arith)
+    (omega arith)
+    (omega arith)
 again-and-again s history a b c k leads (suc times) =
+    let rest = again-and-again s history a b c k leads times in
     counted-as s s (history ++ repeated times history) _ _ _ _ (a * suc times) (b * suc times) (c * suc times) (k * suc times)
-    (goes-on s s s history (repeated times history) a b c k (a * times) (b * times) (c * times) (k * times) leads (again-and-again s history a b c k leads times))
+    (goes-on s s s history (repeated times history) a b c k (a * times) (b * times) (c * times) (k * times) leads rest)
     (omega arith)
     (omega arith)
     (omega arith)

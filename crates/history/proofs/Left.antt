@@ -144,7 +144,8 @@ module _ (l : Limits) (some-try : 1 ≤ l .tries) (p : Partner) where
       by-test false w v k h = omega arith
 
       by : (k : Holding)
-          → weightIn (lefts n) (samePartner p) k + one (waitsAt p (record { holding = k })) ≤ (n + 1) * one (holdsIn p k) + bad l (record { holding = k })
+          → weightIn (lefts n) (samePartner p) k + one (waitsAt p (record { holding = k }))
+          ≤ (n + 1) * one (holdsIn p k) + bad l (record { holding = k })
       by Free = omega arith
       by (Held d ph q) = by-test (samePartner p q) (waitingPhase ph) (left n ph) (bad l (seat d ph q)) (phase-left d ph q)
 

@@ -9,6 +9,7 @@ pub mod Silence
 pub mod Left
 pub mod Timeouts
 pub mod Waiting
+pub mod FromColdStart
 pub mod Tries
 pub mod Leads
 pub mod Sessions

@@ -1,5 +1,5 @@
 -- Request Q-11: orders, calls and two messages 32 do differ with their order, by computation.
--- Proves: order-matters, last-matters.
+-- Proves: bothWays-differ, lastBothWays-differ.
 use mathlib.Core.Path.{_≡_, refl}
 use mathlib.Core.List.{[], _∷_, map}
 use Rattle.record.specs.Records.{reading}
@@ -14,17 +14,19 @@ use Rattle.history.specs.OrderMatters.{bothWays, pairs, lastBothWays, tw
 
 -- an order and a partner's event: 156 and 22 for RBC 5, or 21 and 22; two orders, and a call and an order: the last place goes to the first
 -- promise
-pub order-matters :
+pub bothWays-differ :
     map bothWays pairs
     ≡ (((0 ∷ 156 ∷ 21 ∷ []) ∷ (0 ∷ 22 ∷ []) ∷ []) ∷ ((0 ∷ 22 ∷ 21 ∷ []) ∷ (0 ∷ 21 ∷ []) ∷ []) ∷ [])
     ∷ (((0 ∷ 21 ∷ []) ∷ (8 ∷ []) ∷ []) ∷ ((8 ∷ []) ∷ (0 ∷ 21 ∷ []) ∷ []) ∷ [])
     ∷ (((0 ∷ 159 ∷ []) ∷ (8 ∷ []) ∷ []) ∷ ((8 ∷ []) ∷ (0 ∷ 21 ∷ []) ∷ []) ∷ [])
     ∷ []
-unfolding reading turn first seek placesOk sound cold coldStart closed closingActions step onRecord after endOf trace some recalled bothWays pairs
-order-matters = refl
+unfolding reading turn first seek placesOk sound cold coldStart closed closingActions step onRecord
+    after endOf trace some recalled bothWays pairs
+bothWays-differ = refl
 
 -- two messages 32: "the later one sets it"
 -- promise
-pub last-matters : lastBothWays twoVersions ≡ Known 0 0 2 ∷ Known 0 0 1 ∷ []
-unfolding reading turn first seek placesOk sound cold coldStart closed closingActions step onRecord after endOf trace some recalled lastBothWays twoVersions
-last-matters = refl
+pub lastBothWays-differ : lastBothWays twoVersions ≡ Known 0 0 2 ∷ Known 0 0 1 ∷ []
+unfolding reading turn first seek placesOk sound cold coldStart closed closingActions step onRecord
+    after endOf trace some recalled lastBothWays twoVersions
+lastBothWays-differ = refl

@@ -1,6 +1,7 @@
 -- One partner's session from its first action to its release, with as many actions as there can be.
 -- Defines: box, idle, five.
--- Proves: started-idle, calling-leads, ordering-leads, connecting-starts, connecting-holds.
+-- Proves: started-idle, calling-leads, ordering-leads, connecting-starts, contacting-starts, lost-starts, ending-starts, connecting-holds,
+-- contacting-holds, lost-holds, ending-holds.
 use mathlib.Core.Path.{_≡_, refl, sym, ap, subst, _∙_}
 use mathlib.Core.Bool.{true, false, cond, _&&_}
 use mathlib.Core.List.{List, [], _∷_, _++_}
@@ -26,14 +27,15 @@ use Rattle.place.specs.declared.turn.Turn.{Turn}
 use Rattle.place.specs.declared.turn.Turn.the-variants.{Released, Becomes, Sends}
 use Rattle.unit.specs.Lasts.{lastOk, recalled}
 use Rattle.unit.specs.States.{first, seek, limitsOk, placesOk, sound, noMarks, cold, noLimits, coldStart, some}
-use Rattle.unit.specs.Steps.{done, act, turned, closed, closingActions, step}
+use Rattle.unit.specs.Steps.{Outcome, done, act, turned, closed, closingActions, step}
 use Rattle.unit.specs.OnRecords.{trace, actionRoom, onRecord}
 use Rattle.unit.specs.declared.last.Last.{Last}
 use Rattle.unit.specs.declared.last.Last.the-variants.{Unknown, Known}
 use Rattle.unit.specs.declared.start.Started.{Started}
 use Rattle.unit.specs.declared.state.State.{State}
 use Rattle.history.specs.Histories.{endOf, after, isOrder, isCall, isLoss, acceptedAs, perOrder, perCall, perLoss}
-use Rattle.history.specs.Reaching.{oneToTwo, started, rbc5, order5, drop5, up5, lost5, timeout5, version5, call5, ended5, retries, lossesIn, endedLate, ordering, calling}
+use Rattle.history.specs.Reaching.{oneToTwo, started, retries, lossesIn, endedLate, ordering, calling}
+use Rattle.history.specs.Reaching.{rbc5, order5, drop5, up5, lost5, timeout5, version5, call5, ended5}
 use Rattle.history.proofs.Leads.{Leads, stays, begins, goes-on, counted-as}
 
 -- the box that holds RBC 5 and nobody else, and the one that holds nobody, with n tries and this last known RBC
@@ -77,11 +79,15 @@ module _ (n : ℕ) (ok : limitsOk (oneToTwo n) ≡ true) (last : Last) (known : 
       and-both (limitsOk (oneToTwo n)) (placesOk (oneToTwo n) (box n last d ph .places) && lastOk last) ok
       (and-both (placesOk (oneToTwo n) (box n last d ph .places)) (lastOk last) (places-fit ph fit) known)
 
+  -- what the box gives where its place makes this turn
+  abbrev played : Phase → Turn → Outcome
+  played ph t = turned (box n last d ph) 0 ph rbc5 t
+
   -- a record that names RBC 5 makes the turn that the table says
   turns : (ph : Phase) (e : PartnerEvent) (bytes : List ℕ)
       → Fit ph
       → reading bytes ≡ Meant (Named rbc5 e)
-      → onRecord (box n last d ph) bytes actionRoom ≡ turned (box n last d ph) 0 ph rbc5 (turn (oneToTwo n) ph e)
+      → onRecord (box n last d ph) bytes actionRoom ≡ played ph (turn (oneToTwo n) ph e)
   unfolding onRecord step seek first some
   turns ph e bytes fit means = rw (box-sound ph fit, means) refl
 
@@ -90,10 +96,15 @@ module _ (n : ℕ) (ok : limitsOk (oneToTwo n) ≡ true) (last : Last) (known : 
       → Fit ph
       → reading bytes ≡ Meant (Named rbc5 e)
       → turn (oneToTwo n) ph e ≡ t
-      → Leads (turned (box n last d ph) 0 ph rbc5 t .state) history u a b c k
-      → Leads (box n last d ph) (bytes ∷ history) u (acceptedAs (λ s. isOrder) (box n last d ph) bytes (turned (box n last d ph) 0 ph rbc5 t) + a) (acceptedAs (λ s. isCall) (box n last d ph) bytes (turned (box n last d ph) 0 ph rbc5 t) + b) (acceptedAs (λ s. isLoss) (box n last d ph) bytes (turned (box n last d ph) 0 ph rbc5 t) + c) (length (turned (box n last d ph) 0 ph rbc5 t .actions) + k)
+      → Leads (played ph t .state) history u a b c k
+      → Leads (box n last d ph) (bytes ∷ history) u
+      (acceptedAs (λ s. isOrder) (box n last d ph) bytes (played ph t) + a)
+      (acceptedAs (λ s. isCall) (box n last d ph) bytes (played ph t) + b)
+      (acceptedAs (λ s. isLoss) (box n last d ph) bytes (played ph t) + c)
+      (length (played ph t .actions) + k)
   via ph e bytes t history u a b c k fit means turning rest =
-      begins (box n last d ph) bytes (turned (box n last d ph) 0 ph rbc5 t) history u a b c k (turns ph e bytes fit means ∙ ap (turned (box n last d ph) 0 ph rbc5) turning) rest
+      let plays = turns ph e bytes fit means ∙ ap (played ph) turning in
+      begins (box n last d ph) bytes (played ph t) history u a b c k plays rest
 
   -- the timeouts of a phase, from the first try to the last
   module _ (phase : ℕ → Phase) (number : ℕ) (other : eqb number established ≡ false)
@@ -104,39 +115,41 @@ module _ (n : ℕ) (ok : limitsOk (oneToTwo n) ≡ true) (last : Last) (known : 
     unfolding recalled
     kept = ap (λ b. cond (b && true) five last) other
 
+    -- the box at such a try
+    abbrev tried : ℕ → State
+    tried t = box n last d (phase t)
+
     -- so many timeouts
     timed-out : (k t : ℕ)
         → 1 ≤ t
         → t + k ≤ n
-        → Leads (box n last d (phase t)) (replicate k timeout5) (box n last d (phase (t + k))) 0 0 0 k
+        → Leads (tried t) (replicate k timeout5) (tried (t + k)) 0 0 0 k
     unfolding reading
-    timed-out zero t some fits =
-        subst (λ u. Leads (box n last d (phase t)) [] (box n last d (phase u)) 0 0 0 0) (omega arith) (stays (box n last d (phase t)))
+    timed-out zero t some fits = subst (λ u. Leads (tried t) [] (tried u) 0 0 0 0) (omega arith) (stays (tried t))
     timed-out (suc k) t some fits =
-        subst (λ u. Leads (box n last d (phase t)) (timeout5 ∷ replicate k timeout5) (box n last d (phase u)) 0 0 0 (suc k)) (omega arith)
-        (counted-as _ _ _ _ _ _ _ 0 0 0 (suc k)
-        (via (phase t) Timeout timeout5 (Sends number (phase (t + 1))) (replicate k timeout5) (box n last d (phase ((t + 1) + k))) 0 0 0 k (fit t some (omega arith)) refl
-        (once-more t (omega arith))
-        (subst (λ x. Leads (box n x d (phase (t + 1))) (replicate k timeout5) (box n last d (phase ((t + 1) + k))) 0 0 0 k) (sym kept)
-        (timed-out k (t + 1) (omega arith) (omega arith))))
-        refl
-        refl
-        refl
-        (omega arith))
+        let end = tried ((t + 1) + k) in
+        let later = timed-out k (t + 1) (omega arith) (omega arith) in
+        let rest = subst (λ x. Leads (box n x d (phase (t + 1))) (replicate k timeout5) end 0 0 0 k) (sym kept) later in
+        let whole =
+        via (phase t) Timeout timeout5 (Sends number (phase (t + 1))) (replicate k timeout5) end 0 0 0 k
+        (fit t some (omega arith)) refl (once-more t (omega arith)) rest in
+        subst (λ u. Leads (tried t) (timeout5 ∷ replicate k timeout5) (tried u) 0 0 0 (suc k)) (omega arith)
+        (counted-as _ _ _ _ _ _ _ 0 0 0 (suc k) whole refl refl refl (omega arith))
 
     -- all that there can be without a release
-    all-tries : 1 ≤ n → Leads (box n last d (phase 1)) (retries n) (box n last d (phase n)) 0 0 0 (n - 1)
+    all-tries : 1 ≤ n → Leads (tried 1) (retries n) (tried n) 0 0 0 (n - 1)
     all-tries some-try =
-        subst (λ t. Leads (box n last d (phase 1)) (retries n) (box n last d (phase t)) 0 0 0 (n - 1)) (omega arith) (timed-out (n - 1) 1 (omega arith) (omega arith))
+        subst (λ t. Leads (tried 1) (retries n) (tried t) 0 0 0 (n - 1)) (omega arith)
+        (timed-out (n - 1) 1 (omega arith) (omega arith))
 
     -- and then the rest
     retried :
         1 ≤ n
         → (history : List (List ℕ)) (u : State) (a b c k : ℕ)
-        → Leads (box n last d (phase n)) history u a b c k
-        → Leads (box n last d (phase 1)) (retries n ++ history) u (0 + a) (0 + b) (0 + c) ((n - 1) + k)
+        → Leads (tried n) history u a b c k
+        → Leads (tried 1) (retries n ++ history) u (0 + a) (0 + b) (0 + c) ((n - 1) + k)
     retried some-try history u a b c k rest =
-        goes-on (box n last d (phase 1)) (box n last d (phase n)) u (retries n) history 0 0 0 (n - 1) a b c k (all-tries some-try) rest
+        goes-on (tried 1) (tried n) u (retries n) history 0 0 0 (n - 1) a b c k (all-tries some-try) rest
 
   within : (t : ℕ) → 1 ≤ t → t ≤ n → (leb 1 t && leb t n) ≡ true
   within t some most = and-both (leb 1 t) (leb t n) (le-leb 1 t some) (le-leb t n most)
@@ -164,37 +177,28 @@ module _ (n : ℕ) (ok : limitsOk (oneToTwo n) ≡ true) (last : Last) (known : 
     closed-leads : Leads (box n last d Open) (endedLate n) (idle n last) 0 0 0 (n + 1)
     unfolding reading turn recalled
     closed-leads =
-        counted-as _ _ _ _ _ _ _ 0 0 0 (n + 1)
-        (via Open Drop drop5 (Sends 156 (Ending 1)) _ _ _ _ _ _ (session-fit Open refl refl) refl refl
-        (retried Ending 156 refl ending-fit (λ t. try-again 156 (Ending t)) some-try _ _ _ _ _ _
-        (via (Ending n) Ended ended5 Released [] (idle n last) 0 0 0 0 (ending-fit n some-try (omega arith)) refl refl (stays (idle n last)))))
-        refl
-        refl
-        refl
-        (omega arith)
+        let fit = ending-fit n some-try (omega arith) in
+        let released = via (Ending n) Ended ended5 Released [] (idle n last) 0 0 0 0 fit refl refl (stays (idle n last)) in
+        let ending = retried Ending 156 refl ending-fit (λ t. try-again 156 (Ending t)) some-try _ _ _ _ _ _ released in
+        let whole = via Open Drop drop5 (Sends 156 (Ending 1)) _ _ _ _ _ _ (session-fit Open refl refl) refl refl ending in
+        counted-as _ _ _ _ _ _ _ 0 0 0 (n + 1) whole refl refl refl (omega arith)
 
     -- an open session lost so many times, timed out to the last try, and up again
     losses-lead : (c : ℕ) → Leads (box n last d Open) (lossesIn n c) (box n last d Open) 0 0 c (n * c)
     unfolding reading turn lossesIn recalled
     losses-lead zero = counted-as _ _ _ _ _ _ _ 0 0 0 (n * 0) (stays (box n last d Open)) refl refl refl (omega arith)
     losses-lead (suc c) =
-        counted-as _ _ _ _ _ _ _ 0 0 (suc c) (n * suc c)
-        (via Open Loss lost5 (Sends 21 (Lost 1)) _ _ _ _ _ _ (session-fit Open refl refl) refl refl
-        (retried Lost 21 refl lost-fit (λ t. try-again 21 (Lost t)) some-try _ _ _ _ _ _
-        (via (Lost n) Up up5 (Becomes Open) _ _ _ _ _ _ (lost-fit n some-try (omega arith)) refl refl (losses-lead c))))
-        (omega arith)
-        (omega arith)
-        (omega arith)
-        (omega arith)
+        let fit = lost-fit n some-try (omega arith) in
+        let restored = via (Lost n) Up up5 (Becomes Open) _ _ _ _ _ _ fit refl refl (losses-lead c) in
+        let lost = retried Lost 21 refl lost-fit (λ t. try-again 21 (Lost t)) some-try _ _ _ _ _ _ restored in
+        let whole = via Open Loss lost5 (Sends 21 (Lost 1)) _ _ _ _ _ _ (session-fit Open refl refl) refl refl lost in
+        counted-as _ _ _ _ _ _ _ 0 0 (suc c) (n * suc c) whole (omega arith) (omega arith) (omega arith) (omega arith)
 
     -- the one, then the other
     session-leads : (c : ℕ) → Leads (box n last d Open) (lossesIn n c ++ endedLate n) (idle n last) 0 0 c (n * c + (n + 1))
     session-leads c =
-        counted-as _ _ _ _ _ _ _ 0 0 c (n * c + (n + 1)) (goes-on _ _ _ (lossesIn n c) (endedLate n) _ _ _ _ _ _ _ _ (losses-lead c) closed-leads)
-        refl
-        refl
-        (omega arith)
-        refl
+        let whole = goes-on _ _ _ (lossesIn n c) (endedLate n) _ _ _ _ _ _ _ _ (losses-lead c) closed-leads in
+        counted-as _ _ _ _ _ _ _ 0 0 c (n * c + (n + 1)) whole refl refl (omega arith) refl
 
 module _ (n : ℕ) (some-try : 1 ≤ n) (most : n ≤ mostTries) where
   -- so many tries a cold start takes
@@ -205,7 +209,9 @@ module _ (n : ℕ) (some-try : 1 ≤ n) (most : n ≤ mostTries) where
   pub started-idle : started n ≡ idle n Unknown
   unfolding coldStart cold
   started-idle =
-      ap (λ b. cond {A = Started} b (record { code = accepted; state = cold (oneToTwo n) }) (record { code = badLimits; state = cold noLimits }) .state) limits-ok
+      let taken : Started = record { code = accepted; state = cold (oneToTwo n) } in
+      let left : Started = record { code = badLimits; state = cold noLimits } in
+      ap (λ b. cond b taken left .state) limits-ok
 
   idle-sound : (last : Last) → lastOk last ≡ true → sound (idle n last) ≡ true
   unfolding sound placesOk first some
@@ -224,13 +230,10 @@ module _ (n : ℕ) (some-try : 1 ≤ n) (most : n ≤ mostTries) where
       → Leads (idle n last) (calling n c) (idle n five) 0 1 c (perCall n + perLoss n * c)
   unfolding calling
   calling-leads last known c =
-      counted-as _ _ _ _ _ _ _ 0 1 c (perCall n + perLoss n * c)
-      (begins (idle n last) call5 (done (box n five Incoming Open) (act rbc5 159 ∷ [])) _ _ _ _ _ _ (called-five last known)
-      (session-leads n limits-ok five refl Incoming some-try c))
-      (omega arith)
-      (omega arith)
-      (omega arith)
-      (omega arith)
+      let first = done (box n five Incoming Open) (act rbc5 159 ∷ []) in
+      let session = session-leads n limits-ok five refl Incoming some-try c in
+      let whole = begins (idle n last) call5 first _ _ _ _ _ _ (called-five last known) session in
+      counted-as _ _ _ _ _ _ _ 0 1 c (perCall n + perLoss n * c) whole (omega arith) (omega arith) (omega arith) (omega arith)
 
   -- a session that an order asks for
   ordered-five : (last : Last)
@@ -253,26 +256,85 @@ module _ (n : ℕ) (some-try : 1 ≤ n) (most : n ≤ mostTries) where
     pub ordering-leads : (c : ℕ) → Leads (idle n last) (ordering n c) (idle n five) 1 0 c (perOrder n + perLoss n * c)
     unfolding reading turn ordering recalled
     ordering-leads c =
-        counted-as _ _ _ _ _ _ _ 1 0 c (perOrder n + perLoss n * c)
-        (begins (idle n last) order5 (done (box n last Outgoing (Connecting 1)) (act rbc5 21 ∷ [])) _ _ _ _ _ _ (ordered-five last known)
-        (retried n limits-ok last known Outgoing Connecting 21 refl connecting-fit (λ t. again-on 21 (Connecting t)) some-try _ _ _ _ _ _
-        (via n limits-ok last known Outgoing (Connecting n) Up up5 (Sends 155 (Contacting 1)) _ _ _ _ _ _ (connecting-fit n some-try (omega arith)) refl refl
-        (retried n limits-ok last known Outgoing Contacting 155 refl contacting-fit (λ t. again-on 155 (Contacting t)) some-try _ _ _ _ _ _
-        (via n limits-ok last known Outgoing (Contacting n) (Version 17) version5 (Sends 159 Open) _ _ _ _ _ _ (contacting-fit n some-try (omega arith)) refl refl
-        (session-leads n limits-ok five refl Outgoing some-try c))))))
-        (omega arith)
-        (omega arith)
-        (omega arith)
-        (omega arith)
+        let first = done (box n last Outgoing (Connecting 1)) (act rbc5 21 ∷ []) in
+        let session = session-leads n limits-ok five refl Outgoing some-try c in
+        let opened =
+        via n limits-ok last known Outgoing (Contacting n) (Version 17) version5 (Sends 159 Open) _ _ _ _ _ _
+        (contacting-fit n some-try (omega arith)) refl refl session in
+        let contacting =
+        retried n limits-ok last known Outgoing Contacting 155 refl contacting-fit (λ t. again-on 155 (Contacting t)) some-try
+        _ _ _ _ _ _ opened in
+        let connected =
+        via n limits-ok last known Outgoing (Connecting n) Up up5 (Sends 155 (Contacting 1)) _ _ _ _ _ _
+        (connecting-fit n some-try (omega arith)) refl refl contacting in
+        let connecting =
+        retried n limits-ok last known Outgoing Connecting 21 refl connecting-fit (λ t. again-on 21 (Connecting t)) some-try
+        _ _ _ _ _ _ connected in
+        let whole = begins (idle n last) order5 first _ _ _ _ _ _ (ordered-five last known) connecting in
+        counted-as _ _ _ _ _ _ _ 1 0 c (perOrder n + perLoss n * c) whole (omega arith) (omega arith) (omega arith) (omega arith)
 
   -- an order is taken in
   pub connecting-starts : after (started n) (order5 ∷ []) ≡ box n Unknown Outgoing (Connecting 1)
   unfolding after endOf trace
   connecting-starts = ap (λ s. onRecord s order5 actionRoom .state) started-idle ∙ ap (λ o. o .state) (ordered-five Unknown refl)
 
-  -- and its place is held through all tries but one
+  -- its connection comes up
+  pub contacting-starts : after (started n) (order5 ∷ up5 ∷ []) ≡ box n Unknown Outgoing (Contacting 1)
+  unfolding after endOf trace reading turn recalled
+  contacting-starts =
+      let first = connecting-fit Unknown refl 1 (omega arith) some-try in
+      ap (λ s. onRecord s up5 actionRoom .state) connecting-starts
+      ∙ ap (λ o. o .state) (turns n limits-ok Unknown refl Outgoing (Connecting 1) Up up5 first refl)
+
+  -- a call is taken
+  call-starts : after (started n) (call5 ∷ []) ≡ box n five Incoming Open
+  unfolding after endOf trace
+  call-starts = ap (λ s. onRecord s call5 actionRoom .state) started-idle ∙ ap (λ o. o .state) (called-five Unknown refl)
+
+  -- its connection is lost; it is dropped
+  pub lost-starts : after (started n) (call5 ∷ lost5 ∷ []) ≡ box n five Incoming (Lost 1)
+  unfolding after endOf trace reading turn recalled
+  lost-starts =
+      let fit = session-fit n limits-ok five refl Incoming Open refl refl in
+      ap (λ s. onRecord s lost5 actionRoom .state) call-starts
+      ∙ ap (λ o. o .state) (turns n limits-ok five refl Incoming Open Loss lost5 fit refl)
+
+  pub ending-starts : after (started n) (call5 ∷ drop5 ∷ []) ≡ box n five Incoming (Ending 1)
+  unfolding after endOf trace reading turn recalled
+  ending-starts =
+      let fit = session-fit n limits-ok five refl Incoming Open refl refl in
+      ap (λ s. onRecord s drop5 actionRoom .state) call-starts
+      ∙ ap (λ o. o .state) (turns n limits-ok five refl Incoming Open Drop drop5 fit refl)
+
+  -- and a place is held through all tries of its phase but one
   pub connecting-holds : after (after (started n) (order5 ∷ [])) (retries n) ≡ box n Unknown Outgoing (Connecting n)
   unfolding turn
   connecting-holds =
-      ap (λ s. after s (retries n)) connecting-starts
-      ∙ all-tries n limits-ok Unknown refl Outgoing Connecting 21 refl (connecting-fit Unknown refl) (λ t. again-on Unknown refl 21 (Connecting t)) some-try .ends
+      let tries =
+      all-tries n limits-ok Unknown refl Outgoing Connecting 21 refl (connecting-fit Unknown refl)
+      (λ t. again-on Unknown refl 21 (Connecting t)) some-try in
+      ap (λ s. after s (retries n)) connecting-starts ∙ tries .ends
+
+  pub contacting-holds : after (after (started n) (order5 ∷ up5 ∷ [])) (retries n) ≡ box n Unknown Outgoing (Contacting n)
+  unfolding turn
+  contacting-holds =
+      let tries =
+      all-tries n limits-ok Unknown refl Outgoing Contacting 155 refl (contacting-fit Unknown refl)
+      (λ t. again-on Unknown refl 155 (Contacting t)) some-try in
+      ap (λ s. after s (retries n)) contacting-starts ∙ tries .ends
+
+  pub lost-holds : after (after (started n) (call5 ∷ lost5 ∷ [])) (retries n) ≡ box n five Incoming (Lost n)
+  unfolding turn
+  lost-holds =
+      let tries =
+      all-tries n limits-ok five refl Incoming Lost 21 refl (lost-fit n limits-ok five refl Incoming)
+      (λ t. try-again n limits-ok five refl Incoming 21 (Lost t)) some-try in
+      ap (λ s. after s (retries n)) lost-starts ∙ tries .ends
+
+  pub ending-holds : after (after (started n) (call5 ∷ drop5 ∷ [])) (retries n) ≡ box n five Incoming (Ending n)
+  unfolding turn
+  ending-holds =
+      let tries =
+      all-tries n limits-ok five refl Incoming Ending 156 refl (ending-fit n limits-ok five refl Incoming)
+      (λ t. try-again n limits-ok five refl Incoming 156 (Ending t)) some-try in
+      ap (λ s. after s (retries n)) ending-starts ∙ tries .ends

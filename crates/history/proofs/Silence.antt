@@ -23,7 +23,8 @@ use Rattle.unit.specs.OnRecords.{trace, actionRoom, onRecord}
 use Rattle.unit.specs.Lasts.{meant}
 use Rattle.unit.specs.declared.state.State.{State}
 use Rattle.unit.specs.Kept.{count}
-use Rattle.history.specs.Histories.{sumOver, after, summed, eventNames, isTimeout, eventTimeout, ofReading, names, timeoutFor, silent}
+use Rattle.history.specs.Histories.{sumOver, after, summed, ofReading, names, timeoutFor, silent}
+use Rattle.history.specs.Histories.{eventNames, isTimeout, eventTimeout}
 use Rattle.unit.proofs.Counts.{nothing}
 use Rattle.unit.proofs.Balances.{Sense, Balance, moved}
 use Rattle.unit.proofs.Scales.{Scale, Balanced, brings, counted}
@@ -66,7 +67,9 @@ module _ (σ : Scale) (p : Partner) (free : brings σ Timeout ≡ 0) where
   event-brings s (Call q) h = unnamed (samePartner p q) (σ .call) h
   event-brings s (Named q e) h = timed-out (samePartner p q) e h
 
-  record-brings : (s : State) (bytes : List ℕ) → quiet p s bytes ≡ true → ofMeant (brought σ (samePartner p) s) (reading bytes) ≡ 0
+  record-brings : (s : State) (bytes : List ℕ)
+      → quiet p s bytes ≡ true
+      → ofMeant (brought σ (samePartner p) s) (reading bytes) ≡ 0
   record-brings s bytes = by (reading bytes)
     where
       by : (r : Reading)
@@ -75,7 +78,10 @@ module _ (σ : Scale) (p : Partner) (free : brings σ Timeout ≡ 0) where
       by (Meant e) h = event-brings s e h
       by (Refused r) h = refl
 
-  pub received-none : (s : State) (bytes : List ℕ) → quiet p s bytes ≡ true → (o : Outcome) → received σ (samePartner p) s bytes o ≡ 0
+  pub received-none : (s : State) (bytes : List ℕ)
+      → quiet p s bytes ≡ true
+      → (o : Outcome)
+      → received σ (samePartner p) s bytes o ≡ 0
   received-none s bytes h o = rw (record-brings s bytes h) (nothing (eqb (o .code) accepted))
 
   -- nor a history of them
@@ -94,7 +100,10 @@ module _ (σ : Scale) (p : Partner) (free : brings σ Timeout ≡ 0) where
     -- the step on such a record
     pub silent-step : (bytes : List ℕ)
         → quiet p s bytes ≡ true
-        → Balance m (count (counted σ (samePartner p)) (onRecord s bytes actionRoom .actions) + total σ (samePartner p) (onRecord s bytes actionRoom .state .places)) (total σ (samePartner p) (s .places))
+        → Balance m
+        (count (counted σ (samePartner p)) (onRecord s bytes actionRoom .actions)
+        + total σ (samePartner p) (onRecord s bytes actionRoom .state .places))
+        (total σ (samePartner p) (s .places))
     silent-step bytes h =
         let none = received-none s bytes h (onRecord s bytes actionRoom) in
         moved m _ _ _ _ refl (omega arith) (record-account m (s .limits) σ balanced (samePartner p) s refl bytes)
@@ -102,7 +111,10 @@ module _ (σ : Scale) (p : Partner) (free : brings σ Timeout ≡ 0) where
     -- and a history of them
     pub silent-account : (history : List (List ℕ))
         → silent p s history ≡ true
-        → Balance m (summed (λ s bytes o. count (counted σ (samePartner p)) (o .actions)) s history + total σ (samePartner p) (after s history .places)) (total σ (samePartner p) (s .places))
+        → Balance m
+        (summed (λ s bytes o. count (counted σ (samePartner p)) (o .actions)) s history
+        + total σ (samePartner p) (after s history .places))
+        (total σ (samePartner p) (s .places))
     silent-account history h =
         let none = silent-none s history h in
         moved m _ _ _ _ refl (omega arith) (history-account m (s .limits) σ balanced (samePartner p) s refl history)

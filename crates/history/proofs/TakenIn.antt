@@ -1,5 +1,5 @@
 -- Demand 3: the partners taken in are those released and those that still hold a place.
--- Proves: demand-taken-in.
+-- Proves: taken-in.
 use mathlib.Core.Path.{_≡_, refl, ap₂}
 use mathlib.Core.Bool.{true, not}
 use mathlib.Core.List.{List, [], _∷_}
@@ -39,15 +39,16 @@ counts-release a = refl
 
 -- from a cold start, whatever its limits
 -- promise
-pub demand-taken-in : (l : Limits)
+pub taken-in : (l : Limits)
     → coldStart l .code ≡ accepted
     → (history : List (List ℕ))
     → orders (coldStart l .state) history + calls (coldStart l .state) history
     ≡ releases (coldStart l .state) history + placesHeld (after (coldStart l .state) history .places)
-demand-taken-in l started history =
+taken-in l started history =
     let s = coldStart l .state in
     let account =
-    rated-account (λ ph. 1) (seats .counts) 1 1 0 (λ p. true) (λ s bytes. true) (λ s bytes. whose-any (s .last) (reading bytes)) exactly (s .limits) (seats-balanced (s .limits)) isRelease counts-release s refl history in
+    rated-account (λ ph. 1) (seats .counts) 1 1 0 (λ p. true) (λ s bytes. true) (λ s bytes. whose-any (s .last) (reading bytes))
+    exactly (s .limits) (seats-balanced (s .limits)) isRelease counts-release s refl history in
     let none = cold-light seats (λ p. true) l in
     let held = held-count (after s history .places) in
     omega arith

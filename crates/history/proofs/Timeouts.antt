@@ -106,7 +106,10 @@ module _ (p : Partner) (s : State)
   event-acts (Named q e) h =
       by e (and-right (samePartner p q) (isTimeout e) h) (same-eq p q (and-left (samePartner p q) (isTimeout e) h))
     where
-      by : (e : PartnerEvent) → isTimeout e ≡ true → p ≡ q → 1 ≤ own (namedAt s q e (seek q (s .places)) .actions)
+      by : (e : PartnerEvent)
+          → isTimeout e ≡ true
+          → p ≡ q
+          → 1 ≤ own (namedAt s q e (seek q (s .places)) .actions)
       by Drop h same = true-false false h refl
       by Up h same = true-false false h refl
       by Loss h same = true-false false h refl

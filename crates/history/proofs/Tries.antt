@@ -60,7 +60,8 @@ never-past s ok history i below =
     let facts = sound-facts end (after-sound s ok history) in
     let four = facts .four in
     let same = ap (λ l. l .tries) (after-limits s history) in
-    let within = tries-within (end .limits) (getD (end .places) i vacant .holding) (place-at (end .limits) (end .places) i (facts .places) (omega arith)) in
+    let placed = place-at (end .limits) (end .places) i (facts .places) (omega arith) in
+    let within = tries-within (end .limits) (getD (end .places) i vacant .holding) placed in
     omega arith
 
 -- and of a cold start with so many tries

@@ -20,7 +20,8 @@ use Rattle.unit.specs.Kept.{here, once, weigh, count}
 use Rattle.unit.proofs.Effects.{onRecord-limits}
 use Rattle.unit.proofs.Facts.{limits-tries, sound-facts}
 use Rattle.unit.proofs.Sound.{onRecord-sound}
-use Rattle.history.specs.Histories.{endOf, after, isRelease, timeoutFor, silent, timeouts, holdsPlace, waits, releaseOf, releasesOf, timeoutsToRelease}
+use Rattle.history.specs.Histories.{endOf, after, timeoutFor, silent, timeouts, holdsPlace, waits}
+use Rattle.history.specs.Histories.{isRelease, releaseOf, releasesOf, timeoutsToRelease}
 use Rattle.unit.proofs.Counts.{count-same}
 use Rattle.unit.proofs.Balances.{atMost, exactly}
 use Rattle.unit.proofs.Scales.{counted}
@@ -80,8 +81,8 @@ module _ (p : Partner) where
       let o = onRecord s bytes actionRoom in
       let first = left-step s ok few bytes (and-left (quiet p s bytes) (silent p (o .state) history) h) in
       let same = ap (λ l. l .tries) (onRecord-limits s bytes actionRoom) in
-      let rest =
-      left-after (o .state) (onRecord-sound s bytes actionRoom ok) (omega arith) history (and-right (quiet p s bytes) (silent p (o .state) history) h) in
+      let later = and-right (quiet p s bytes) (silent p (o .state) history) h in
+      let rest = left-after (o .state) (onRecord-sound s bytes actionRoom ok) (omega arith) history later in
       omega arith
 
 -- a partner that holds none of the places has none
@@ -141,7 +142,8 @@ module _
         let none = none-held in
         let own =
         summed-same (λ s bytes o. count (counted seats (samePartner p)) (o .actions)) (λ s bytes o. count (releaseOf p) (o .actions))
-        (λ s bytes. count-same (counted seats (samePartner p)) (releaseOf p) (release-of p) (onRecord s bytes actionRoom .actions)) s history in
+        (λ s bytes. count-same (counted seats (samePartner p)) (releaseOf p) (release-of p) (onRecord s bytes actionRoom .actions))
+        s history in
         omega arith
 
 -- with the three tries of document 01

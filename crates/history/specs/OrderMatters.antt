@@ -33,7 +33,10 @@ bothWays pair =
 -- three calls
 abbrev threeTaken : List (List ℕ)
 threeTaken =
-    (11 ∷ 0 ∷ 0 ∷ 0 ∷ 1 ∷ 38 ∷ 0 ∷ []) ∷ (11 ∷ 0 ∷ 0 ∷ 0 ∷ 2 ∷ 38 ∷ 0 ∷ []) ∷ (11 ∷ 0 ∷ 0 ∷ 0 ∷ 3 ∷ 38 ∷ 0 ∷ []) ∷ []
+    (11 ∷ 0 ∷ 0 ∷ 0 ∷ 1 ∷ 38 ∷ 0 ∷ [])
+    ∷ (11 ∷ 0 ∷ 0 ∷ 0 ∷ 2 ∷ 38 ∷ 0 ∷ [])
+    ∷ (11 ∷ 0 ∷ 0 ∷ 0 ∷ 3 ∷ 38 ∷ 0 ∷ [])
+    ∷ []
 
 -- RBC 5 Open: an order to RBC 6, not accepting, and the loss of RBC 5. Three places taken: orders to RBC 8 and RBC 9; a call of RBC 8 and
 -- an order to RBC 9
@@ -44,8 +47,16 @@ pairs =
       one = 5 ∷ 0 ∷ 0 ∷ 0 ∷ 6 ∷ 0 ∷ 1 ∷ [];
       other = 9 ∷ 0 ∷ 0 ∷ 0 ∷ 5 ∷ [];
     }
-    ∷ record { before = threeTaken; one = 5 ∷ 0 ∷ 0 ∷ 0 ∷ 8 ∷ 1 ∷ 1 ∷ []; other = 5 ∷ 0 ∷ 0 ∷ 0 ∷ 9 ∷ 1 ∷ 1 ∷ [] }
-    ∷ record { before = threeTaken; one = 11 ∷ 0 ∷ 0 ∷ 0 ∷ 8 ∷ 38 ∷ 0 ∷ []; other = 5 ∷ 0 ∷ 0 ∷ 0 ∷ 9 ∷ 1 ∷ 1 ∷ [] }
+    ∷ record {
+      before = threeTaken;
+      one = 5 ∷ 0 ∷ 0 ∷ 0 ∷ 8 ∷ 1 ∷ 1 ∷ [];
+      other = 5 ∷ 0 ∷ 0 ∷ 0 ∷ 9 ∷ 1 ∷ 1 ∷ [];
+    }
+    ∷ record {
+      before = threeTaken;
+      one = 11 ∷ 0 ∷ 0 ∷ 0 ∷ 8 ∷ 38 ∷ 0 ∷ [];
+      other = 5 ∷ 0 ∷ 0 ∷ 0 ∷ 9 ∷ 1 ∷ 1 ∷ [];
+    }
     ∷ []
 
 -- the last known RBC after both, in the two orders

@@ -1,16 +1,20 @@
 -- Document 01, "Worth of each promise": "the histories that reach them", from a cold start with X 1 to 2 and n tries and with one
 -- partner, RBC 5.
 -- Defines: oneToTwo, started, rbc5, order5, drop5, up5, lost5, timeout5, version5, call5, ended5, retries, lossesIn, endedLate, ordering,
--- calling, repeated, reaching, Sums, sumsOf, counts, oneToNine.
-use Prim.Native.Nat.{ℕ, zero, suc, _-_}
+-- calling, repeated, reaching, Sums, sumsOf, counts, oneToNine, HeldTo.
+use Prim.Native.Nat.{ℕ, zero, suc, _+_, _-_}
+use mathlib.Core.Path.{_≡_}
+use mathlib.Core.Bool.{true}
 use mathlib.Core.List.{List, [], _∷_, _++_}
-use lib.ListN.{replicate}
+use lib.ListN.{getD, replicate}
 use Rattle.record.specs.Partners.{rbc}
 use Rattle.record.specs.declared.partner.Partner.{Partner}
+use Rattle.place.specs.Places.{vacant, heldPhase}
+use Rattle.place.specs.declared.phase.Phase.{Phase}
 use Rattle.place.specs.declared.limits.Limits.{Limits}
 use Rattle.unit.specs.States.{coldStart}
 use Rattle.unit.specs.declared.state.State.{State}
-use Rattle.history.specs.Histories.{orders, calls, losses, actions}
+use Rattle.history.specs.Histories.{after, orders, calls, losses, actions, silent, timeouts, holdsPlace, waits, timeoutsToRelease}
 
 -- X 1 to 2, and n tries
 abbrev pub oneToTwo : ℕ → Limits
@@ -103,3 +107,12 @@ counts a b c k = record { orders = a; calls = b; losses = c; actions = k }
 -- "n, 1 to 9"
 abbrev pub oneToNine : List ℕ
 oneToNine = 1 ∷ 2 ∷ 3 ∷ 4 ∷ 5 ∷ 6 ∷ 7 ∷ 8 ∷ 9 ∷ []
+
+-- RBC 5 waits in this phase after these records, and then still holds its place after one timeout less than release it
+abbrev pub HeldTo : ℕ → List (List ℕ) → Phase → Type 0
+HeldTo n records ph =
+    (heldPhase (getD (after (started n) records .places) 0 vacant) ≡ ph)
+    × (waits rbc5 (after (started n) records .places) ≡ true)
+    × (silent rbc5 (after (started n) records) (retries n) ≡ true)
+    × (timeouts rbc5 (retries n) + 1 ≡ timeoutsToRelease n)
+    × (holdsPlace rbc5 (after (after (started n) records) (retries n) .places) ≡ true)

@@ -1,7 +1,7 @@
 -- Mending as the code does it: by what its tests showed, and the list of changed fields as it grows.
 -- Proves: within-kept, within-zero, mendPlace-by, mendLast-by, mendLast-none, absent-three, places-upwards, limits-started,
--- sizeOf-mark, sizeOf-place, sizeOf-last, changed-more, changed-few, listing-same, listing-more, part-of, part-seven, seven-written, field-fits,
--- image-whole, unsound-long, rescue-mends, rescue-leaves, rescue-unlimited, rescue-readable.
+-- sizeOf-mark, sizeOf-place, sizeOf-last, changed-more, changed-few, listing-same, listing-more, part-of, part-seven,
+-- seven-written, field-fits, image-whole, unsound-long, rescue-mends, rescue-leaves, rescue-unlimited, rescue-readable.
 use mathlib.Core.Path.{_≡_, refl, sym, ap, ap₂, _∙_}
 use mathlib.Core.Bool.{Bool, true, false, cond, _&&_, _||_, not}
 use mathlib.Core.List.{List, [], _∷_, _++_, append-nil}
@@ -90,20 +90,20 @@ unfolding some
 keep-two a b Free = refl
 keep-two a b (Held d ph p) = refl
 
+-- the four, z and x being the lowest two as they are kept
+abbrev above : Place → Place → Place → Place → List Place
+above z x b c =
+    let next = keep (x ∷ z ∷ vacant ∷ []) b in
+    z ∷ x ∷ next ∷ keep (next ∷ x ∷ z ∷ []) c ∷ []
+
 up : (z a b c : Place)
-    → keepFirst [] (z ∷ a ∷ b ∷ c ∷ [])
-    ≡ z
-    ∷ keep (z ∷ vacant ∷ vacant ∷ []) a
-    ∷ keep (keep (z ∷ vacant ∷ vacant ∷ []) a ∷ z ∷ vacant ∷ []) b
-    ∷ keep (keep (keep (z ∷ vacant ∷ vacant ∷ []) a ∷ z ∷ vacant ∷ []) b ∷ keep (z ∷ vacant ∷ vacant ∷ []) a ∷ z ∷ []) c
-    ∷ []
+    → keepFirst [] (z ∷ a ∷ b ∷ c ∷ []) ≡ above z (keep (z ∷ vacant ∷ vacant ∷ []) a) b c
 unfolding keepFirst
 up z a b c =
-    let first = keep-one z (a .holding) in
     let second = keep-two (keep (z ∷ []) a) z (b .holding) in
     ap (λ x. x ∷ keepFirst (x ∷ []) (a ∷ b ∷ c ∷ [])) (keep-all (z .holding))
     ∙ sym
-    ((λ i. z ∷ first i ∷ keep (first i ∷ z ∷ vacant ∷ []) b ∷ keep (keep (first i ∷ z ∷ vacant ∷ []) b ∷ first i ∷ z ∷ []) c ∷ [])
+    (ap (λ x. above z x b c) (keep-one z (a .holding))
     ∙ (λ i. z ∷ keep (z ∷ []) a ∷ second i ∷ keep (second i ∷ keep (z ∷ []) a ∷ z ∷ []) c ∷ []))
 
 module _ (l : Limits) (body : List ℕ) where
@@ -126,7 +126,7 @@ module _ (l : Limits) (body : List ℕ) where
       let k₂ : second ≡ keep (first ∷ z ∷ vacant ∷ []) b = e₂ ∙ ap (λ x. keep (first ∷ z ∷ x ∷ []) b) n in
       ap (λ x. z ∷ first ∷ second ∷ x ∷ []) e₃
       ∙ ap (λ x. z ∷ first ∷ x ∷ keep (x ∷ first ∷ z ∷ []) c ∷ []) k₂
-      ∙ ap (λ x. z ∷ x ∷ keep (x ∷ z ∷ vacant ∷ []) b ∷ keep (keep (x ∷ z ∷ vacant ∷ []) b ∷ x ∷ z ∷ []) c ∷ []) k₁
+      ∙ ap (λ x. above z x b c) k₁
       ∙ sym (up z a b c)
       ∙ (λ i.
       keepFirst []
@@ -248,8 +248,25 @@ seven-written (Held d ph p) = refl
 -- each field ends inside the image
 pub field-fits : (i : ℕ) → getD fields i 0 + sizeOf (getD fields i 0) ≤ 42
 field-fits i =
-    getD-all (λ at. at + sizeOf at ≤ 42) fields 0
-    (omega arith, (omega arith, (omega arith, (omega arith, (omega arith, (omega arith, (omega arith, (omega arith, (omega arith, (omega arith, (omega arith, tt)))))))))))
+    getD-all (λ at. at + sizeOf at ≤ 42) fields 0 (
+      omega arith,
+      (
+        omega arith,
+        (
+          omega arith,
+          (
+            omega arith,
+            (
+              omega arith,
+              (
+                omega arith,
+                (omega arith, (omega arith, (omega arith, (omega arith, (omega arith, tt))))),
+              ),
+            ),
+          ),
+        ),
+      ),
+    )
     (omega arith)
     i
 

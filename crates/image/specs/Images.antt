@@ -1,6 +1,6 @@
 -- Document 01, "Stored image", and request Q-4: the bytes of a state as A1 and as A2, and the state of such bytes.
--- Defines: kindA1, kindA2, sizeA1, sizeA2, placeSize, placeBytes, placesBytes, markByte, headBytes, bodyBytes, lastSize, lastBytes, tailBytes,
--- wholeBytes, imageA1, imageA2, isUnknown, fitsA1, writeRefused, writeAccepted, writeA2, writeA1, imagedA2, imagedA1, phaseOf,
+-- Defines: kindA1, kindA2, sizeA1, sizeA2, placeSize, placeBytes, placesBytes, markByte, headBytes, bodyBytes, lastSize, lastBytes,
+-- tailBytes, wholeBytes, imageA1, imageA2, isUnknown, fitsA1, writeRefused, writeAccepted, writeA2, writeA1, imagedA2, imagedA1, phaseOf,
 -- directionOf, heldIn, placeIn, placesIn, headSize, placesAt, tailAt, lastAt, lastIn, stateIn, sameBytes, readRefused, isBodyOf,
 -- readBody, tailOfA1, ofLength, readA2, readImage.
 use Prim.Native.Nat.{ℕ, zero, suc, _+_, _*_}

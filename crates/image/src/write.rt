@@ -69,7 +69,10 @@ fn put_head(s: &mut [u8], kind: u8, state: State)
 // Writes the phase, direction, tries and partner of a place.
 fn put_seven(s: &mut [u8], at: usize, phase: u8, direction: u8, tries: u8, partner: Partner)
     requires { ⌜ at + 7 ≤ length (now s) ⌝ }
-    ensures { λ r. ⌜ now (s .exit) ≡ sets (now (s .entry)) at (phase ∷ direction ∷ tries ∷ partner .kind ∷ partner .high ∷ partner .middle ∷ partner .low ∷ []) ⌝ }
+    ensures { λ r.
+        ⌜ now (s .exit)
+        ≡ sets (now (s .entry)) at
+        (phase ∷ direction ∷ tries ∷ partner .kind ∷ partner .high ∷ partner .middle ∷ partner .low ∷ []) ⌝ }
 {
     s[at] = phase;
     s[at + 1] = direction;

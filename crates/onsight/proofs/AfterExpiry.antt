@@ -1,6 +1,6 @@
 -- "Prove that after expiry in Late only the acknowledgement leads on."
 -- Proves: late-brakes, expired-codes, expired-stays, expired-brakes, acknowledged-codes, acknowledged-done,
--- acknowledged-released, never-late, only-acknowledgement.
+-- acknowledged-released, expired-never-late, expired-only-acknowledgement.
 use mathlib.Core.Path.{_≡_, refl, sym, ap, _∙_}
 use mathlib.Core.Bool.{Bool, true, false, cond, not, true≢false}
 use mathlib.Core.List.{List, [], _∷_, _++_}
@@ -14,7 +14,7 @@ use Rattle.onsight.specs.declared.event.Event.{Event}
 use Rattle.onsight.specs.declared.event.Event.the-variants.{Profile, Window, Start, Acknowledgement, Expiry}
 use Rattle.onsight.specs.declared.procedure.State.{State}
 use Rattle.onsight.specs.declared.procedure.State.the-variants.{Idle, Waiting, Asked, Late, Braking, Done}
-use Rattle.onsight.specs.declared.procedure.Cell.the-variants.{No, To}
+use Rattle.onsight.specs.declared.procedure.Cell.the-variants.{No}
 use Rattle.onsight.proofs.WholeTable.{line-rule, taken-rule, by-cell}
 use Rattle.onsight.proofs.Histories.{after-append, codes-append, NoneTaken, none-taken, kept}
 
@@ -56,7 +56,9 @@ past-takes s gone e =
 module _ (es : List Event) (late : after fresh es ≡ Late) where
   -- 002, property 5.9_02_02: Late always takes the expiry, and brakes
   -- promise
-  pub late-brakes : (step (after fresh es) Expiry ≡ taken Braking) × (serviceBrake (after fresh (es ++ (Expiry ∷ []))) ≡ true)
+  pub late-brakes :
+      (step (after fresh es) Expiry ≡ taken Braking)
+      × (serviceBrake (after fresh (es ++ (Expiry ∷ []))) ≡ true)
   unfolding met endOf
   late-brakes = (
     ap (λ s. step s Expiry) late,
@@ -125,12 +127,12 @@ module _ (es : List Event) (late : after fresh es ≡ Late) where
 
     -- 002, property 5.9_02_01: after an accepted expiry no later state is Late,
     -- promise
-    pub never-late : after fresh (es ++ (Expiry ∷ gs)) ≡ Late → ⊥
-    never-late again = let z : _≡_ {A = ℕ} 0 1 = cc (ap past again, past-expiry) in omega arith
+    pub expired-never-late : after fresh (es ++ (Expiry ∷ gs)) ≡ Late → ⊥
+    expired-never-late again = let z : _≡_ {A = ℕ} 0 1 = cc (ap past again, past-expiry) in omega arith
 
     -- and nothing but the acknowledgement is taken
     -- promise
-    pub only-acknowledgement : (e : Event)
+    pub expired-only-acknowledgement : (e : Event)
         → step (after fresh (es ++ (Expiry ∷ gs))) e .code ≡ accepted
         → e ≡ Acknowledgement
-    only-acknowledgement = past-takes (after fresh (es ++ (Expiry ∷ gs))) past-expiry
+    expired-only-acknowledgement = past-takes (after fresh (es ++ (Expiry ∷ gs))) past-expiry

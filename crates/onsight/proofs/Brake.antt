@@ -13,7 +13,9 @@ use Rattle.onsight.specs.declared.procedure.Cell.the-variants.{To}
 use Rattle.onsight.proofs.WholeTable.{taken-rule, by-cell}
 
 -- an event that is taken leads to the brake exactly where it is an expiry in Late
-brake-next : (s : State) (e : Event) (next : State) → cell s e ≡ To next → serviceBrake next ≡ (isLate s && isExpiry e)
+brake-next : (s : State) (e : Event) (next : State)
+    → cell s e ≡ To next
+    → serviceBrake next ≡ (isLate s && isExpiry e)
 brake-next = taken-rule (λ s e next. serviceBrake next) (λ s e. isLate s && isExpiry e) refl
 
 brake-from : (s : State) (es : List Event) → serviceBrake (after s es) ≡ lastIs expiryInLate (serviceBrake s) (acceptedIn s es)

@@ -6,7 +6,7 @@ use native.Mathlib.Omega.{arith}
 use lib.Dec.{eqb}
 use Rattle.onsight.specs.Numbers.{accepted}
 use Rattle.onsight.specs.Procedures.{cell, step, osInForce}
-use Rattle.onsight.specs.Histories.{isIdle, isLate, isProfile, isExpiry, asksForAcknowledgement}
+use Rattle.onsight.specs.Histories.{isIdle, isLate, isProfile, asksForAcknowledgement}
 use Rattle.onsight.specs.declared.event.Event.{Event}
 use Rattle.onsight.specs.declared.event.Event.the-variants.{Start, Acknowledgement, Expiry}
 use Rattle.onsight.specs.declared.procedure.State.{State}

@@ -71,7 +71,11 @@ module _
     (test : State → Bool)
     (keeps : drawn (λ s e. onTaken (λ next. cond (test s) (test next) true) true (cell s e)) ≡ drawn (λ s e. true))
   where
-    next-kept : (s : State) (e : Event) → test s ≡ true → (next : State) → cell s e ≡ To next → test next ≡ true
+    next-kept : (s : State) (e : Event)
+        → test s ≡ true
+        → (next : State)
+        → cell s e ≡ To next
+        → test next ≡ true
     next-kept s e h next gives =
         sym (ap (λ b. cond b (test next) true) h)
         ∙ taken-rule (λ s e next. cond (test s) (test next) true) (λ s e. true) keeps s e next gives

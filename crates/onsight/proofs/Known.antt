@@ -42,5 +42,8 @@ profile-no r none Entered PT = none .1 .1 .0
 profile-no r none Entered Another = none .1 .1 .1
 
 -- the state is known, and its row takes no profile
-pub unopened : (area : Area) (mode : Mode) {s known : State} → s ≡ known → NoProfile (row known) → No ≡ cell s (Profile area mode)
+pub unopened : (area : Area) (mode : Mode) {s known : State}
+    → s ≡ known
+    → NoProfile (row known)
+    → No ≡ cell s (Profile area mode)
 unopened area mode {s} {known} is none = in-state (Profile area mode) is (profile-no (row known) none area mode)

@@ -1,5 +1,5 @@
 -- A procedure accepts at most five events; no state is a trap, and none is out of reach.
--- Proves: most-accepted, longest-accepted, reached, leads-to-done.
+-- Proves: acceptedIn-most, longest-accepted, wayTo-reaches, wayToDone-done.
 use mathlib.Core.Path.{_≡_, refl}
 use mathlib.Core.Bool.{true, cond}
 use mathlib.Core.List.{List, [], _∷_}
@@ -50,8 +50,8 @@ accepted-left s (e ∷ es) =
     omega arith)
 
 -- promise
-pub most-accepted : (es : List Event) → length (acceptedIn fresh es) ≤ mostAccepted
-most-accepted es = accepted-left fresh es
+pub acceptedIn-most : (es : List Event) → length (acceptedIn fresh es) ≤ mostAccepted
+acceptedIn-most es = accepted-left fresh es
 
 -- a history that reaches five
 -- promise
@@ -61,22 +61,22 @@ longest-accepted = refl
 
 -- every state is reached from a fresh Idle
 -- promise
-pub reached : (s : State) → after fresh (wayTo s) ≡ s
+pub wayTo-reaches : (s : State) → after fresh (wayTo s) ≡ s
 unfolding met endOf
-reached Idle = refl
-reached Waiting = refl
-reached Asked = refl
-reached Late = refl
-reached Braking = refl
-reached Done = refl
+wayTo-reaches Idle = refl
+wayTo-reaches Waiting = refl
+wayTo-reaches Asked = refl
+wayTo-reaches Late = refl
+wayTo-reaches Braking = refl
+wayTo-reaches Done = refl
 
 -- from every state a history leads to Done
 -- promise
-pub leads-to-done : (s : State) → after s (wayToDone s) ≡ Done
+pub wayToDone-done : (s : State) → after s (wayToDone s) ≡ Done
 unfolding met endOf
-leads-to-done Idle = refl
-leads-to-done Waiting = refl
-leads-to-done Asked = refl
-leads-to-done Late = refl
-leads-to-done Braking = refl
-leads-to-done Done = refl
+wayToDone-done Idle = refl
+wayToDone-done Waiting = refl
+wayToDone-done Asked = refl
+wayToDone-done Late = refl
+wayToDone-done Braking = refl
+wayToDone-done Done = refl

@@ -2,5 +2,7 @@
 -- refused first at the sentence that it breaks.
 pub mod Limit
 pub mod Losses
+pub mod Numbered
+pub mod Rows
 pub mod Tries
 pub mod Versions

@@ -3,7 +3,8 @@
 use Prim.Native.Nat.{ℕ}
 use Rattle.record.specs.declared.event.PartnerEvent.{PartnerEvent}
 use Rattle.wire.proofs.Tests.{cond-holds, All, getD-all}
-use Rattle.place.specs.Table.{refuse, table, column, firstTry, supported, judged, play, versionOf, turn, established, incompatible, terminate}
+use Rattle.place.specs.Table.{refuse, table, column, firstTry, supported, judged, play, versionOf, turn}
+use Rattle.place.specs.Table.{established, incompatible, terminate}
 use Rattle.place.specs.declared.phase.Phase.{Phase}
 use Rattle.place.specs.declared.phase.Phase.the-variants.{Open, Ending}
 use Rattle.place.specs.declared.limits.Limits.{Limits}

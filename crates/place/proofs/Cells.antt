@@ -11,7 +11,8 @@ use Rattle.record.specs.Partners.{namedOk}
 use Rattle.record.specs.declared.partner.Partner.{Partner}
 use Rattle.record.specs.declared.event.PartnerEvent.{PartnerEvent}
 use Rattle.place.specs.Places.{tries, triesOk, phaseOk, fits, heldPhase}
-use Rattle.place.specs.Table.{Cell, refuse, cell, judged, withTries, oneMore, again, play, turn, versionOf, established, incompatible, terminate, firstTry, closing, closes, turnedTo}
+use Rattle.place.specs.Table.{Cell, refuse, cell, judged, withTries, oneMore, again, play, turn, versionOf, established}
+use Rattle.place.specs.Table.{incompatible, terminate, firstTry, closing, closes, turnedTo}
 use Rattle.place.proofs.Holdings.{holdingOk, holdingClosedBy}
 use Rattle.place.specs.Cells.{legend, cellOf, isOpen}
 use Rattle.place.specs.declared.phase.Phase.{Phase}

@@ -1,5 +1,5 @@
 -- What every turn of a place keeps to, whatever the phase and the event.
--- Proves: closing-sound, turn-sound, turn-few, sessions-rbc, event-sound, closedBy-sound, after-seat, after-holds.
+-- Proves: closing-sound, turn-sound, turn-few, sessions-rbc, event-sound, closedBy-sound, placeAfter-seat, after-holds.
 use mathlib.Core.Path.{_≡_, refl}
 use mathlib.Core.Bool.{true, false, _&&_}
 use Prim.Native.Nat.{ℕ, _+_, _≤_, _<_}
@@ -158,12 +158,12 @@ closedBy-sound l some-try which (Held d ph p) ok =
 
 -- "Direction never changes while the place is held", nor does the partner
 -- promise
-pub after-seat : (d : Direction) (ph : Phase) (p : Partner) (t : Turn) → SeatOf d p (placeAfter (seat d ph p) t .holding)
-after-seat d ph p Stays = (refl, refl)
-after-seat d ph p Released = tt
-after-seat d ph p (Becomes q) = (refl, refl)
-after-seat d ph p (Sends number q) = (refl, refl)
-after-seat d ph p (SendsBoth first second q) = (refl, refl)
+pub placeAfter-seat : (d : Direction) (ph : Phase) (p : Partner) (t : Turn) → SeatOf d p (placeAfter (seat d ph p) t .holding)
+placeAfter-seat d ph p Stays = (refl, refl)
+placeAfter-seat d ph p Released = tt
+placeAfter-seat d ph p (Becomes q) = (refl, refl)
+placeAfter-seat d ph p (Sends number q) = (refl, refl)
+placeAfter-seat d ph p (SendsBoth first second q) = (refl, refl)
 
 -- a place holds after a turn whom it held before, or nobody
 pub after-holds : (q : Partner) (place : Place) (t : Turn) → holds q (placeAfter place t) ≡ true → holds q place ≡ true

@@ -1,6 +1,6 @@
 -- Document 01, "What the box remembers", the part on one place.
--- Defines: phaseNumber, tries, directionNumber, mostTries, defaultTries, fleetTries, vacant, seat, onHolding, isFree, partnerOf, heldPhase, holds, triesOk, phaseOk, fitsIncoming,
--- fits, placeOk.
+-- Defines: phaseNumber, tries, directionNumber, mostTries, defaultTries, fleetTries, vacant, seat, onHolding, isFree, partnerOf, heldPhase,
+-- holds, triesOk, phaseOk, fitsIncoming, fits, placeOk.
 use Prim.Native.Nat.{ℕ}
 use mathlib.Core.Bool.{Bool, true, false, _&&_}
 use lib.Dec.{leb}

@@ -85,7 +85,8 @@ cell ph e = getD (table ph) (column e) refuse
 abbrev pub firstTry : ℕ
 firstTry = 1
 
--- "Closing a place: Connecting, Contacting or Lost gives 22 and frees it; Open gives 156 and becomes Ending, tries 1"; an Ending place is not closed
+-- "Closing a place: Connecting, Contacting or Lost gives 22 and frees it; Open gives 156 and becomes Ending, tries 1"; an Ending place is
+-- not closed
 abbrev pub closing : Phase → Turn
 closing (Connecting t) = Released
 closing (Contacting t) = Released
@@ -117,7 +118,8 @@ withTries (Ending t) u = Ending u
 abbrev pub oneMore : Phase → Phase
 oneMore ph = withTries ph (tries ph + 1)
 
--- "Timeout gives the action shown and one more try while tries are 1 or 2; at 3 it gives 22 and frees the place"; Q-3: while fewer than n were used
+-- "Timeout gives the action shown and one more try while tries are 1 or 2; at 3 it gives 22 and frees the place"; Q-3: while fewer than n
+-- were used
 abbrev pub again : Limits → ℕ → Phase → Turn
 again l number ph = cond (ltb (tries ph) (l .tries)) (Sends number (oneMore ph)) Released
 

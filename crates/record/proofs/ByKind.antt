@@ -74,29 +74,35 @@ module _ (s : List ℕ) where
       by [] h = refl
       by (kind ∷ body) h = absurd (omega arith)
 
+  abbrev kind : ℕ
+  kind = byte s 0
+
   by-kind :
       (length s ≡ 0 → ⊥)
       → reading s
-      ≡ cond (known (byte s 0)) (cond (eqb (length s) (lengthOf (byte s 0))) (fields (bodyOf (byte s 0)) s) (Refused wrongLength)) (Refused unknownKind)
+      ≡ cond (known kind) (cond (eqb (length s) (lengthOf kind)) (fields (bodyOf kind) s) (Refused wrongLength)) (Refused unknownKind)
   unfolding reading
   by-kind = by s
     where
       by : (s : List ℕ)
           → (length s ≡ 0 → ⊥)
           → reading s
-          ≡ cond (known (byte s 0)) (cond (eqb (length s) (lengthOf (byte s 0))) (fields (bodyOf (byte s 0)) s) (Refused wrongLength)) (Refused unknownKind)
+          ≡ cond (known (byte s 0))
+          (cond (eqb (length s) (lengthOf (byte s 0))) (fields (bodyOf (byte s 0)) s) (Refused wrongLength))
+          (Refused unknownKind)
       by [] h = absurd (h refl)
       by (kind ∷ body) h = refl
 
   module _ (some : length s ≡ 0 → ⊥) where
     pub read-unknown : (1 ≤ byte s 0 → length lengths ≤ byte s 0) → Refused unknownKind ≡ reading s
-    read-unknown none = sym (by-kind some ∙ simp (le-ltb 0 (lengthOf (byte s 0)) (omega (arith, length-none (byte s 0) none))))
+    read-unknown none = sym (by-kind some ∙ simp (le-ltb 0 (lengthOf kind) (omega (arith, length-none kind none))))
 
     module _ (l : ℕ) (of-kind : l ≡ lengthOf (byte s 0)) (has : 1 ≤ lengthOf (byte s 0)) where
       pub read-length : (length s ≡ l → ⊥) → Refused wrongLength ≡ reading s
       read-length other =
-          sym (by-kind some ∙ simp (lt-ltb 0 (lengthOf (byte s 0)) has, ne-eqb (length s) (lengthOf (byte s 0)) (λ e. other (e ∙ sym of-kind))))
+          let differs = ne-eqb (length s) (lengthOf kind) (λ e. other (e ∙ sym of-kind)) in
+          sym (by-kind some ∙ simp (lt-ltb 0 (lengthOf kind) has, differs))
 
       pub read-fields : length s ≡ l → fields (bodyOf (byte s 0)) s ≡ reading s
       read-fields same =
-          sym (by-kind some ∙ simp (lt-ltb 0 (lengthOf (byte s 0)) has, eq-eqb (length s) (lengthOf (byte s 0)) (same ∙ of-kind)))
+          sym (by-kind some ∙ simp (lt-ltb 0 (lengthOf kind) has, eq-eqb (length s) (lengthOf kind) (same ∙ of-kind)))

@@ -3,4 +3,5 @@ pub mod Ranges
 pub mod ByKind
 pub mod OneAnswer
 pub mod Named
+pub mod Bodies
 pub mod Takes

@@ -1,5 +1,6 @@
 -- No second answer satisfies the contract of a public function: a line for each of this crate's, over the contract as the checker names it.
--- Proves: partner-same-once, partner-is-rbc-once, partner-in-range-once, partner-is-reserved-once, partner-can-be-named-once, length-of-once, read-once, take-one-once, take-once.
+-- Proves: partner-same-once, partner-is-rbc-once, partner-in-range-once, partner-is-reserved-once, partner-can-be-named-once,
+-- length-of-once, read-once, take-one-once, take-once.
 use mathlib.Core.Path.{_≡_, sym, _∙_}
 use Rattle.record.proofs.partner.Partner.same.Reads as partner-same
 use Rattle.record.proofs.partner.Partner.is_rbc.Reads as partner-is-rbc

@@ -9,7 +9,9 @@ use lib.Dec.{eqb, leb, ltb}
 use lib.ListN.{length}
 use borrow.Author.Tests.{leb-true}
 use Rattle.record.specs.Partners.{partnerOk, namedOk}
-use Rattle.record.specs.Records.{reading, readingNumber, Body, bodies, bodyOf, noBody, partnerBody, causes, partnerIn, known, lengthOf, highestLevel, messageVersion, messageCall, messageEnded, highestVersion, messageOk, messageMeans, partnerEventOk, eventOk, readingOk}
+use Rattle.record.specs.Records.{reading, readingNumber, Body, bodies, bodyOf, noBody, partnerBody, causes, partnerIn}
+use Rattle.record.specs.Records.{known, lengthOf, highestLevel, messageVersion, messageCall, messageEnded, highestVersion}
+use Rattle.record.specs.Records.{messageOk, messageMeans, partnerEventOk, eventOk, readingOk}
 use Rattle.wire.specs.Bytes.{byte, bit}
 use Rattle.wire.specs.Refusals.{wrongLength, unknownKind, outOfRange}
 use Rattle.record.specs.declared.event.PartnerEvent.{PartnerEvent}

@@ -1,8 +1,8 @@
 -- One record off the front of a log.
--- Proves: part-is, take-end, by-kind, take-unknown, take-short, part-reads, take-whole, taken-short, taken-long,
--- taken-ok.
+-- Proves: part-is, take-end, by-kind, take-unknown, take-short, part-reads, take-whole, taken-short, taken-long, taken-ok, taken-twelve,
+-- taken-nothing, taken-unknown, taken-cut, taken-whole.
 use mathlib.Core.Path.{_≡_, refl, sym, ap, ap₂, subst, _∙_}
-use mathlib.Core.Bool.{cond}
+use mathlib.Core.Bool.{true, false, cond}
 use mathlib.Core.Logic.{inl, inr}
 use mathlib.Core.List.{List, [], _∷_}
 use Prim.Native.Nat.{ℕ, suc, _+_, _-_, _≤_, _<_}
@@ -43,8 +43,11 @@ module _ (log : List ℕ) (at : ℕ) where
         let kind = getD log at 0 in
         let cut = drop-cons log at 0 below in
         let left : length (kind ∷ drop (suc at) log) ≡ length log - at = sym (ap length cut) ∙ length-drop at log in
+        let long = lengthOf kind in
         ap takeOne cut
-        ∙ ap₂ (λ n l. cond (known kind) (cond (leb (lengthOf kind) n) (Whole (lengthOf kind) (reading (take (lengthOf kind) l))) (Stopped recordShort)) (Stopped kindUnknown)) left (sym cut)
+        ∙ ap₂ (λ n l.
+        cond (known kind) (cond (leb long n) (Whole long (reading (take long l))) (Stopped recordShort)) (Stopped kindUnknown))
+        left (sym cut)
 
     pub take-unknown : (1 ≤ getD log at 0 → length lengths ≤ getD log at 0) → Stopped kindUnknown ≡ takeOne (drop at log)
     take-unknown none = sym (by-kind ∙ simp (le-ltb 0 (lengthOf (getD log at 0)) (omega (arith, length-none (getD log at 0) none))))
@@ -52,7 +55,8 @@ module _ (log : List ℕ) (at : ℕ) where
     module _ (l : ℕ) (of-kind : l ≡ lengthOf (getD log at 0)) (has : 1 ≤ lengthOf (getD log at 0)) where
       pub take-short : length log - at < l → Stopped recordShort ≡ takeOne (drop at log)
       take-short short =
-          sym (by-kind ∙ simp (lt-ltb 0 (lengthOf (getD log at 0)) has, lt-leb (lengthOf (getD log at 0)) (length log - at) (omega arith)))
+          let long = lengthOf (getD log at 0) in
+          sym (by-kind ∙ simp (lt-ltb 0 long has, lt-leb long (length log - at) (omega arith)))
 
       module _ (fits : l ≤ length log - at) where
         -- a whole record that is lent reads as its fields
@@ -70,8 +74,9 @@ module _ (log : List ℕ) (at : ℕ) where
 
         pub take-whole : (r : Reading) → r ≡ reading (take l (drop at log)) → Whole l r ≡ takeOne (drop at log)
         take-whole r means =
+            let long = lengthOf (getD log at 0) in
             ap₂ Whole of-kind (means ∙ ap (λ k. reading (take k (drop at log))) of-kind)
-            ∙ sym (by-kind ∙ simp (lt-ltb 0 (lengthOf (getD log at 0)) has, le-leb (lengthOf (getD log at 0)) (length log - at) (omega arith)))
+            ∙ sym (by-kind ∙ simp (lt-ltb 0 long has, le-leb long (length log - at) (omega arith)))
 
 -- what is handed over is not too long
 pub taken-short : (log : List ℕ) → length log ≤ longestLog → taken log ≡ takeOne log
@@ -101,3 +106,35 @@ taken-ok log =
     cond-case (TakenOk log) (leb (length log) longestLog) (takeOne log) (Refused logTooLong)
     (λ fits. one-ok log)
     (λ long. (refl, leb-false (length log) longestLog long))
+
+-- Q-8: "12 for taking, by the length of what is handed over"
+-- promise
+pub taken-twelve : (log : List ℕ) → 1_048_576 < length log → taken log ≡ Refused 12
+taken-twelve = taken-long
+
+-- "nothing left, stop 0"
+-- promise
+pub taken-nothing : taken [] ≡ Stopped 0
+unfolding taken takeOne
+taken-nothing = refl
+
+module _ (kind : ℕ) (rest : List ℕ) (short : length (kind ∷ rest) ≤ 1_048_576) where
+  -- "kind unknown, stop 3"
+  -- promise
+  pub taken-unknown : known kind ≡ false → taken (kind ∷ rest) ≡ Stopped 3
+  unfolding takeOne
+  taken-unknown other = taken-short (kind ∷ rest) short ∙ simp other
+
+  module _ (is-known : known kind ≡ true) where
+    -- "fewer bytes than the kind's length, stop 2"
+    -- promise
+    pub taken-cut : length (kind ∷ rest) < lengthOf kind → taken (kind ∷ rest) ≡ Stopped 2
+    unfolding takeOne
+    taken-cut few = taken-short (kind ∷ rest) short ∙ simp (is-known, lt-leb (lengthOf kind) (length (kind ∷ rest)) few)
+
+    -- "take one record off the front of the log, answering the record"
+    -- promise
+    pub taken-whole : lengthOf kind ≤ length (kind ∷ rest)
+        → taken (kind ∷ rest) ≡ Whole (lengthOf kind) (reading (take (lengthOf kind) (kind ∷ rest)))
+    unfolding takeOne
+    taken-whole enough = taken-short (kind ∷ rest) short ∙ simp (is-known, le-leb (lengthOf kind) (length (kind ∷ rest)) enough)

@@ -2,8 +2,9 @@
 -- Defines: highestLevel, missionEnded, missionStarting, missionUnderWay, messageVersion, messageCall, messageEnded, highestVersion,
 -- lengths, lengthOf, known, kindOrder, kindLoss, kindMessage, partnerIn, causes, causeOf, Body, levelBody,
 -- missionBody, modeBody, holeBody, orderOk, orderMeans, orderBody, partnerBody, endAllBody, messageOk, messageMeans, messageBody,
--- noBody, bodies, bodyOf, fields, reading, readingNumber, partnerEventOk, eventOk, readingOk.
+-- noBody, bodies, bodyOf, fields, reading, readingNumber, partnerEventOk, eventOk, readingOk, Ranged.
 use Prim.Native.Nat.{ℕ}
+use mathlib.Core.Path.{_≡_}
 use mathlib.Core.Bool.{Bool, true, false, cond, _&&_, _||_}
 use mathlib.Core.List.{List, [], _∷_}
 use lib.Dec.{eqb, leb, ltb}
@@ -210,3 +211,7 @@ eventOk (Named p e) = namedOk p && partnerEventOk e
 abbrev pub readingOk : Reading → Bool
 readingOk (Meant e) = eventOk e
 readingOk (Refused r) = leb wrongLength r && leb r outOfRange
+
+-- a reading means this event where its fields are in their ranges, and is refusal 3 where they are not
+abbrev pub Ranged : Type 0 → Reading → Event → Type 0
+Ranged P r e = (P → r ≡ Meant e) × ((P → ⊥) → r ≡ Refused 3)

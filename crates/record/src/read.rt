@@ -5,7 +5,8 @@ ghost use mathlib.Core.Bool.{cond, _&&_};
 ghost use lib.ListN.{length};
 ghost use Rattle.record.specs.Partners.{namedOk};
 ghost use Rattle.record.specs.Records.{lengthOf, partnerIn, causeOf, orderOk, orderMeans, messageOk, messageMeans, fields};
-ghost use Rattle.record.specs.Records.{bodyOf, levelBody, missionBody, holeBody, orderBody, partnerBody, endAllBody, messageBody, reading};
+ghost use Rattle.record.specs.Records.{bodyOf, levelBody, missionBody, holeBody, orderBody, partnerBody, endAllBody};
+ghost use Rattle.record.specs.Records.{messageBody, reading};
 ghost use Rattle.wire.specs.Refusals.{outOfRange};
 use crate::event::Cause;
 use crate::event::Event;
@@ -155,7 +156,9 @@ fn cause_of(b: u8) -> Cause
 
 fn order_of(partner: Partner, accepting: u8, cause: u8) -> Reading
     ensures { λ r.
-        ⌜ r ≡ cond (orderOk partner accepting cause) (Reading.Meant (orderMeans partner accepting cause)) (Reading.Refused outOfRange) ⌝ }
+        ⌜ r
+        ≡ cond (orderOk partner accepting cause) (Reading.Meant (orderMeans partner accepting cause))
+        (Reading.Refused outOfRange) ⌝ }
 {
     within(
         and(partner.in_range(), and(accepting <= 1, cause < CAUSES)),

@@ -1,4 +1,5 @@
-// Prints what a run over the log on standard input answers, from a cold start with X from 1 to 2, three tries and a budget that no log uses up.
+// Prints what a run over the log on standard input answers, from a cold start with X from 1 to 2, three tries and a budget that no log uses
+// up.
 use libc::STDIN_FILENO;
 use libc::STDOUT_FILENO;
 use place::limits::FLEET_TRIES;

@@ -43,7 +43,8 @@ module _ (input : List ℕ) (short : length input ≤ mostInput) (buffer₀ : Li
   end-keeps stop =
       put-length (endText stop (p .number)) buffer (p .used) (omega (arith, so-far .0, end-room stop (p .number))) ∙ so-far .2
 
-  module _ (k : ℕ) (r : Reading) (e : takeOne (drop (p .at) input) ≡ Whole k r) (bytes : List ℕ) (lent : bytes ≡ take k (drop (p .at) input)) where
+  module _ (k : ℕ) (r : Reading) (e : takeOne (drop (p .at) input) ≡ Whole k r)
+      (bytes : List ℕ) (lent : bytes ≡ take k (drop (p .at) input)) where
     part : (1 ≤ k) × (p .at + k ≤ length input) × (length (take k (drop (p .at) input)) ≡ k)
     part = whole-part p input short (so-far .0 .1) k r e
 

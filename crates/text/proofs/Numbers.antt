@@ -1,7 +1,7 @@
 -- Decimal digits, made from the last one to the first.
 -- Proves: digit-last, digit-more, rest-less, digits-few.
 use mathlib.Core.Path.{_≡_, sym, ap, _∙_}
-use mathlib.Core.Bool.{cond}
+use mathlib.Core.Bool.{Bool, true, false, cond}
 use mathlib.Core.List.{List, [], _∷_, _++_, append-assoc}
 use Prim.Native.Nat.{ℕ, zero, suc, _+_, _*_, _-_, _/_, _%_, _^_, _≤_, _<_}
 use native.Mathlib.Nat.{pow-suc}
@@ -20,13 +20,24 @@ stored bytes j d below =
     ∙ ap (λ x. x ∷ drop (suc j) (set bytes j d)) (getD-set-same bytes j d 0 below)
     ∙ ap (_∷_ d) (drop-set-lt (suc j) bytes j d (omega arith))
 
-module _ (n rest i : ℕ) (bytes : List ℕ) (so-far : decimal n ≡ digits i rest ++ drop i bytes) (some : 1 ≤ i) (below : i ≤ length bytes) where
+module _ (n rest i : ℕ) (bytes : List ℕ)
+    (so-far : decimal n ≡ digits i rest ++ drop i bytes) (some : 1 ≤ i) (below : i ≤ length bytes) where
   j : ℕ
   j = i - 1
 
   is-suc : i ≡ suc j
   unfolding j
   is-suc = omega arith
+
+  -- the number, by whether one digit is left
+  by-digit : (b : Bool)
+      → ltb rest 10 ≡ b
+      → decimal n ≡ cond b ((digitZero + rest) ∷ []) (digits j (rest / 10) ++ ((digitZero + rest % 10) ∷ [])) ++ drop (suc j) bytes
+  unfolding digits
+  by-digit b test =
+      let one = (digitZero + rest) ∷ [] in
+      let more = digits j (rest / 10) ++ ((digitZero + rest % 10) ∷ []) in
+      so-far ∙ ap (λ k. digits k rest ++ drop k bytes) is-suc ∙ ap (λ x. cond x one more ++ drop (suc j) bytes) test
 
   -- the first digit
   pub digit-last : rest < 10 → drop (i - 1) (set bytes (i - 1) (digitZero + rest % 10)) ≡ decimal n
@@ -35,15 +46,13 @@ module _ (n rest i : ℕ) (bytes : List ℕ) (so-far : decimal n ≡ digits i re
       let same : digitZero + rest % 10 ≡ digitZero + rest = omega arith in
       stored bytes j (digitZero + rest % 10) (omega arith)
       ∙ ap (λ d. d ∷ drop (suc j) bytes) same
-      ∙ sym (so-far ∙ ap (λ k. digits k rest ++ drop k bytes) is-suc ∙ ap (λ b. cond b ((digitZero + rest) ∷ []) (digits j (rest / 10) ++ ((digitZero + rest % 10) ∷ [])) ++ drop (suc j) bytes) (lt-ltb rest 10 small))
+      ∙ sym (by-digit true (lt-ltb rest 10 small))
 
   -- one of the others
   pub digit-more : 10 ≤ rest → decimal n ≡ digits (i - 1) (rest / 10) ++ drop (i - 1) (set bytes (i - 1) (digitZero + rest % 10))
   unfolding j digits
   digit-more large =
-      so-far
-      ∙ ap (λ k. digits k rest ++ drop k bytes) is-suc
-      ∙ ap (λ b. cond b ((digitZero + rest) ∷ []) (digits j (rest / 10) ++ ((digitZero + rest % 10) ∷ [])) ++ drop (suc j) bytes) (le-ltb rest 10 large)
+      by-digit false (le-ltb rest 10 large)
       ∙ append-assoc (digits j (rest / 10)) ((digitZero + rest % 10) ∷ []) (drop (suc j) bytes)
       ∙ ap (_++_ (digits j (rest / 10))) (sym (stored bytes j (digitZero + rest % 10) (omega arith)))
 
@@ -62,4 +71,5 @@ unfolding digits
 digits-few zero n = omega arith
 digits-few (suc k) n =
     let rest = digits-few k (n / 10) in
-    cond-holds (λ l. length l ≤ suc k) (ltb n 10) ((digitZero + n) ∷ []) (digits k (n / 10) ++ ((digitZero + n % 10) ∷ [])) (omega arith) (simp length-append (omega arith))
+    let more = digits k (n / 10) ++ ((digitZero + n % 10) ∷ []) in
+    cond-holds (λ l. length l ≤ suc k) (ltb n 10) ((digitZero + n) ∷ []) more (omega arith) (simp length-append (omega arith))

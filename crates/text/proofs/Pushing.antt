@@ -31,7 +31,9 @@ pub pushes-line : (t : Text) (ws xs ys zs : List ℕ) (b : ℕ)
     → withByte (withBytes (withBytes (withBytes (withBytes t ws) xs) ys) zs) b ≡ withBytes t (ws ++ (xs ++ (ys ++ (zs ++ (b ∷ [])))))
 unfolding withBytes
 pushes-line t ws xs ys zs b =
-    pushes-three (withBytes (withBytes t ws) xs) ys zs (b ∷ []) ∙ sym (pushes-append t ws (xs ++ (ys ++ (zs ++ (b ∷ [])))) ∙ pushes-append (withBytes t ws) xs (ys ++ (zs ++ (b ∷ []))))
+    let last = ys ++ (zs ++ (b ∷ [])) in
+    pushes-three (withBytes (withBytes t ws) xs) ys zs (b ∷ [])
+    ∙ sym (pushes-append t ws (xs ++ last) ∙ pushes-append (withBytes t ws) xs last)
 
 pub pushes-end : (t : Text) (b₁ b₂ b₃ b₄ : ℕ) (xs ys : List ℕ) (b : ℕ)
     → withByte (withBytes (withBytes (withByte (withByte (withByte (withByte t b₁) b₂) b₃) b₄) xs) ys) b
@@ -55,16 +57,19 @@ pub pushes-action : (t : Text) (items : List Action) (few i : ℕ)
     ≡ withBytes (withBytes t (actionText (getD items i noAction))) (blocks actionText (drop (i + 1) (take few items)))
 unfolding blocks
 pushes-action t items few i below there =
-    let inside : i < length (take few items) = simp length-take (omega arith) in
-    ap (λ l. withBytes t (blocks actionText l)) (drop-cons (take few items) i noAction inside)
-    ∙ pushes-append t (actionText (getD (take few items) i noAction)) (blocks actionText (drop (suc i) (take few items)))
-    ∙ ap₂ (λ a k. withBytes (withBytes t (actionText a)) (blocks actionText (drop k (take few items)))) (getD-take few items i noAction below) (sym (add-one i))
+    let row = take few items in
+    let inside : i < length row = simp length-take (omega arith) in
+    ap (λ l. withBytes t (blocks actionText l)) (drop-cons row i noAction inside)
+    ∙ pushes-append t (actionText (getD row i noAction)) (blocks actionText (drop (suc i) row))
+    ∙ ap₂ (λ a k. withBytes (withBytes t (actionText a)) (blocks actionText (drop k row)))
+    (getD-take few items i noAction below) (sym (add-one i))
 
 -- pushed where there is room, a character stands last
 push-texted : (l : List ℕ) (b : ℕ) → length l < textRoom → withByte (texted l) b ≡ texted (l ++ (b ∷ []))
 unfolding withByte texted
 push-texted l b room =
-    simp (lt-ltb (length l) textRoom room) (λ i. record { bytes = padded-push 191 0 b l room i; used = sym (length-append l (b ∷ [])) i })
+    simp (lt-ltb (length l) textRoom room)
+    (λ i. record { bytes = padded-push 191 0 b l room i; used = sym (length-append l (b ∷ [])) i })
 
 pub pushes-text : (l bs : List ℕ) → length l + length bs ≤ textRoom → withBytes (texted l) bs ≡ texted (l ++ bs)
 unfolding withBytes
@@ -99,7 +104,8 @@ module _ (bytes buffer : List ℕ) (used : ℕ) (few : used ≤ length bytes) wh
   unfolding placed placedCount
   placed-none small =
       let short : length buffer < length (take used bytes) = omega (arith, size) in
-      (simp (lt-leb (length (take used bytes)) (length buffer) short), simp (lt-leb (length (take used bytes)) (length buffer) short))
+      let none = lt-leb (length (take used bytes)) (length buffer) short in
+      (simp none, simp none)
 
   pub placed-all : (i : ℕ) (after : List ℕ)
       → i ≡ used
@@ -108,9 +114,13 @@ module _ (bytes buffer : List ℕ) (used : ℕ) (few : used ≤ length bytes) wh
       → (used ≡ placedCount (take used bytes) (length buffer)) × (after ≡ placed (take used bytes) buffer)
   unfolding placed placedCount
   placed-all i after end room copied =
-      let fits : length (take used bytes) ≤ length buffer = omega (arith, size) in (
-        sym size ∙ simp (le-leb (length (take used bytes)) (length buffer) fits),
-        copied ∙ ap (λ k. take k bytes ++ drop k buffer) end ∙ ap (λ k. take used bytes ++ drop k buffer) (sym size) ∙ simp (le-leb (length (take used bytes)) (length buffer) fits),
+      let fits : length (take used bytes) ≤ length buffer = omega (arith, size) in
+      let whole = le-leb (length (take used bytes)) (length buffer) fits in (
+        sym size ∙ simp whole,
+        copied
+            ∙ ap (λ k. take k bytes ++ drop k buffer) end
+            ∙ ap (λ k. take used bytes ++ drop k buffer) (sym size)
+            ∙ simp whole,
       )
 
 -- the same of a text that was pushed from nothing

@@ -1,5 +1,5 @@
 -- Every line of a sheet has room.
--- Proves: decimal-room, line-room, end-room.
+-- Proves: line-room, end-room.
 use mathlib.Core.List.{List, [], _∷_}
 use Prim.Native.Nat.{ℕ, _*_, _≤_}
 use native.Mathlib.Omega.{arith}
@@ -12,9 +12,6 @@ use Rattle.text.proofs.Numbers.{digits-few}
 
 few : (n : ℕ) → length (decimal n) ≤ mostDigits
 few n = digits-few mostDigits n
-
-pub decimal-room : (n : ℕ) → length (decimal n) ≤ textRoom
-decimal-room n = omega (arith, few n)
 
 action-few : (a : Action) → length (actionText a) ≤ 33
 unfolding actionText

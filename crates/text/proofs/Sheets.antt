@@ -1,12 +1,14 @@
 -- Every sheet has room, and the sheet that document 01 prints is the defined one.
--- Proves: course-fits, sheet-fits, count-fits, sheet-example.
-use mathlib.Core.Path.{_≡_, refl, sym, subst}
+-- Proves: course-fits, sheet-fits, count-fits, sheet-example, sheet-refusals, sheet-too-long, sheet-runs,
+-- sheet-counted, sheet-placed, decimal-largest, line-four.
+use mathlib.Core.Path.{_≡_, refl, sym, ap, subst, _∙_}
+use mathlib.Core.Bool.{cond}
 use mathlib.Core.List.{List, [], _∷_, _++_}
-use Prim.Native.Nat.{ℕ, zero, suc, _+_, _*_, _≤_}
+use Prim.Native.Nat.{ℕ, zero, suc, _+_, _*_, _≤_, _<_}
 use native.Mathlib.Omega.{arith}
 use lib.Dec.{leb}
 use lib.ListN.{length, take, drop, length-append}
-use borrow.Author.Tests.{leb-true}
+use borrow.Author.Tests.{leb-true, lt-leb, le-leb}
 use Rattle.wire.specs.Blocks.{blocks}
 use Rattle.wire.specs.Bytes.{byte}
 use Rattle.wire.proofs.Tests.{cond-holds, cond-case}
@@ -22,11 +24,11 @@ use Rattle.unit.specs.declared.state.State.{State}
 use Rattle.record.specs.declared.take.Taken.{Taken}
 use Rattle.record.specs.declared.take.Taken.the-variants.{Whole, Stopped, Refused}
 use Rattle.unit.proofs.Few.{onRecord-few}
-use Rattle.text.specs.Texts.{digits, actionText, lineText, endText}
+use Rattle.text.specs.Texts.{digits, decimal, actionText, lineText, endText, placed}
 use Rattle.text.specs.Making.{textRoom}
 use Rattle.text.specs.Sheets.{headerText, tooLongText, mostInput, sheetLimits, sheetBudget, courseText, sheetText}
-use Rattle.text.specs.Sheets.{sheetRoom, sheetCount}
-use Rattle.text.specs.SheetExample.{exampleInput, exampleText}
+use Rattle.text.specs.Sheets.{sheetRoom, sheetCount, sheetPlaced}
+use Rattle.text.specs.SheetExample.{exampleInput, exampleText, refusalsInput, refusalsText, to}
 use Rattle.text.proofs.Room.{line-room, end-room}
 
 -- the lines of a course, and its last one
@@ -73,3 +75,68 @@ pub sheet-example : sheetText exampleInput ≡ exampleText
 unfolding reading turn first seek placesOk sound cold coldStart closed closingActions step onRecord some taken takeOne course recalled
     digits blocks actionText lineText endText courseText sheetText exampleInput exampleText
 sheet-example = refl
+
+-- one with refusals, two actions for a record, and a record that is cut
+-- promise
+pub sheet-refusals : sheetText refusalsInput ≡ refusalsText
+unfolding reading turn first seek placesOk sound cold coldStart closed closingActions step onRecord some taken takeOne course recalled
+    digits blocks actionText lineText endText courseText sheetText refusalsInput refusalsText
+sheet-refusals = refl
+
+-- "at most 4,096 bytes; more prints only `too long`"
+-- promise
+pub sheet-too-long : (input : List ℕ)
+    → 4096 < length input
+    → sheetText input ≡ 116 ∷ 111 ∷ 111 ∷ 32 ∷ 108 ∷ 111 ∷ 110 ∷ 103 ∷ 10 ∷ []
+unfolding sheetText
+sheet-too-long input long =
+    ap
+    (λ b. cond b (headerText ++ courseText 0 (course sheetBudget (coldStart sheetLimits .state) input)) tooLongText)
+    (lt-leb (length input) mostInput long)
+
+-- "at most 4,096 bytes", "cold starts with X 1 to 2, runs with a budget of 4,096"; Q-3: with three tries
+-- promise
+pub sheet-runs : (input : List ℕ)
+    → length input ≤ 4096
+    → sheetText input
+    ≡ headerText ++ courseText 0 (course 4096 (coldStart (record { lowest = 1; highest = 2; tries = 3 }) .state) input)
+unfolding sheetText
+sheet-runs input fits =
+    ap
+    (λ b. cond b (headerText ++ courseText 0 (course sheetBudget (coldStart sheetLimits .state) input)) tooLongText)
+    (le-leb (length input) mostInput fits)
+
+-- "Output, whole": with room for every sheet the whole sheet stands at the front of the buffer, and its length is answered
+-- promise
+pub sheet-counted : (input : List ℕ) (room : ℕ) → 786_646 ≤ room → sheetCount input room ≡ length (sheetText input)
+unfolding sheetCount
+sheet-counted input room enough = ap (λ b. cond b (length (sheetText input)) 0) (le-leb sheetRoom room enough)
+
+-- promise
+pub sheet-placed : (input buffer : List ℕ)
+    → 786_646 ≤ length buffer
+    → sheetPlaced input buffer ≡ sheetText input ++ drop (length (sheetText input)) buffer
+unfolding sheetPlaced placed
+sheet-placed input buffer enough =
+    let text = sheetText input in
+    let fits : length text ≤ length buffer = omega (arith, sheet-fits input) in
+    ap (λ b. cond b (placed text buffer) buffer) (le-leb sheetRoom (length buffer) enough)
+    ∙ ap (λ b. cond b (text ++ drop (length text) buffer) buffer) (le-leb (length text) (length buffer) fits)
+
+-- "numbers are decimal": the largest of a partner
+-- promise
+pub decimal-largest : decimal 16_777_215 ≡ 49 ∷ 54 ∷ 55 ∷ 55 ∷ 55 ∷ 50 ∷ 49 ∷ 53 ∷ []
+unfolding digits
+decimal-largest = refl
+
+-- "each action as number:type/partner": `4096 5 0 156:0/1 22:0/2 156:0/3 21:0/4`
+-- promise
+pub line-four : lineText 4096 5 0 (to 156 1 ∷ to 22 2 ∷ to 156 3 ∷ to 21 4 ∷ [])
+    ≡ 52 ∷ 48 ∷ 57 ∷ 54 ∷ 32 ∷ 53 ∷ 32 ∷ 48
+    ∷ 32 ∷ 49 ∷ 53 ∷ 54 ∷ 58 ∷ 48 ∷ 47 ∷ 49
+    ∷ 32 ∷ 50 ∷ 50 ∷ 58 ∷ 48 ∷ 47 ∷ 50
+    ∷ 32 ∷ 49 ∷ 53 ∷ 54 ∷ 58 ∷ 48 ∷ 47 ∷ 51
+    ∷ 32 ∷ 50 ∷ 49 ∷ 58 ∷ 48 ∷ 47 ∷ 52
+    ∷ 10 ∷ []
+unfolding digits blocks actionText lineText
+line-four = refl

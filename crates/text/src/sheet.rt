@@ -73,7 +73,8 @@ impl Page {
     }
 
     // The rest of the sheet, from the record at the offset reached to the last line; answers how long the sheet is.
-    // The budget is not tested: a record has at least one byte, so that 4,096 bytes hold at most 4,096 records, and when these are read nothing is left.
+    // The budget is not tested: a record has at least one byte, so that 4,096 bytes hold at most 4,096 records, and when these are read
+    // nothing is left.
     fn fill(self, input: &[u8], buffer: &mut [u8]) -> usize
         requires { ⌜ Ready self (now buffer) × (self .at ≤ length (now input)) × (length (now input) ≤ mostInput) ⌝ }
         ensures { λ r.

@@ -9,7 +9,6 @@ use mathlib.Core.List.{List, [], _∷_, map}
 use Prim.Native.Nat.{ℕ, zero, suc, _+_, _≤_, _<_}
 use native.Mathlib.Omega.{arith}
 use lib.Dec.{ltb}
-use lib.Dec.{ltb}
 use lib.ListN.{length, getD, set}
 use lib.Seq.{set-comm, getD-set-other}
 use Rattle.record.specs.Partners.{samePartner}
@@ -30,16 +29,12 @@ use Rattle.place.specs.declared.place.Holding.the-variants.{Free, Held}
 use Rattle.place.specs.declared.limits.Limits.{Limits}
 use Rattle.place.specs.declared.phase.Phase.the-variants.{Connecting, Contacting, Open, Lost, Ending}
 use Rattle.place.specs.declared.turn.Turn.the-variants.{Released, Sends}
-use Rattle.place.specs.declared.limits.Limits.{Limits}
-use Rattle.place.specs.declared.phase.Phase.the-variants.{Connecting, Contacting, Open, Lost, Ending}
 use Rattle.place.specs.declared.place.Place.{Place}
 use Rattle.place.specs.declared.turn.Turn.{Turn}
 use Rattle.unit.specs.Lasts.{toRbc, recalled}
 use Rattle.unit.specs.declared.last.Last.{Last}
 use Rattle.unit.specs.declared.last.Last.the-variants.{Known}
 use Rattle.unit.specs.Kept.{once, count, isVersion}
-use Rattle.unit.specs.Lasts.{toRbc, recalled}
-use Rattle.unit.specs.declared.last.Last.{Last}
 use Rattle.unit.specs.States.{some, first, seek, nowhere, standing}
 use Rattle.unit.specs.Steps.{Outcome, refusedAt, act, turned, turnedAt, namedAt, step}
 use Rattle.unit.specs.declared.state.State.{State}

@@ -75,7 +75,9 @@ module _ (which : Closing) (ps : List Place) (i : ℕ) (below : i < length ps) w
   closings-place = ap (λ l. getD l i vacant) at-hand ∙ getD-at (closed which (take i ps)) p (drop (suc i) ps) vacant i closed-length
 
   -- its closing is one more
-  pub closings-more : set (closed which (take i ps) ++ drop i ps) i (placeAfter (getD ps i vacant) (closedBy which (getD ps i vacant))) ≡ closed which (take (i + 1) ps) ++ drop (i + 1) ps
+  pub closings-more :
+      set (closed which (take i ps) ++ drop i ps) i (placeAfter (getD ps i vacant) (closedBy which (getD ps i vacant)))
+      ≡ closed which (take (i + 1) ps) ++ drop (i + 1) ps
   unfolding p closed
   closings-more =
       ap (λ l. set l i (placeAfter p (closedBy which p))) at-hand
@@ -101,7 +103,8 @@ module _ (which : Closing) (ps : List Place) (i : ℕ) (below : i < length ps) w
       ≡ closingActions which (take (i + 1) ps)
   unfolding p closingActions
   closings-sent =
-      ap (_++_ (closingActions which (take i ps))) (of-partner which (p .holding) ∙ sym (append-nil (actionsIn (p .holding) (closedBy which p))))
+      ap (_++_ (closingActions which (take i ps)))
+      (of-partner which (p .holding) ∙ sym (append-nil (actionsIn (p .holding) (closedBy which p))))
       ∙ sym (ap (closingActions which) next ∙ closingActions-append which (take i ps) (p ∷ []))
 
   -- in the array too
@@ -127,7 +130,8 @@ module _ (which : Closing) (ps : List Place) (i : ℕ) (above : length ps ≤ i)
   sent-all = ap listed actions-all
 
 -- one turn of the code's loop
-module _ (which : Closing) (ps : List Place) (i : ℕ) (below : i < length ps) (places : List Place) (so-far : places ≡ closed which (take i ps) ++ drop i ps) where
+module _ (which : Closing) (ps : List Place) (i : ℕ) (below : i < length ps) (places : List Place)
+    (so-far : places ≡ closed which (take i ps) ++ drop i ps) where
   place-is : getD places i vacant ≡ getD ps i vacant
   place-is = ap (λ l. getD l i vacant) so-far ∙ closings-place which ps i below
 
@@ -152,7 +156,9 @@ module _ (which : Closing) (ps : List Place) (i : ℕ) (below : i < length ps) (
       → t ≡ closedBy which (getD places i vacant)
       → closingActions which (take i ps) ++ map (act q) (numbers t) ≡ closingActions which (take (i + 1) ps)
   closings-next q t partner turn =
-      ap₂ (λ r u. closingActions which (take i ps) ++ map (act r) (numbers u)) (partner ∙ ap partnerOf place-is) (turn ∙ ap (closedBy which) place-is)
+      ap₂ (λ r u. closingActions which (take i ps) ++ map (act r) (numbers u))
+      (partner ∙ ap partnerOf place-is)
+      (turn ∙ ap (closedBy which) place-is)
       ∙ closings-sent which ps i below
 
   pub closings-actions : (before after : Actions) (q : Partner) (t : Turn)

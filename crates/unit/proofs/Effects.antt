@@ -46,7 +46,8 @@ use Rattle.unit.specs.Standings.{Concern, nobody, orderTo, callOf, namin
 use Rattle.unit.specs.OnRecords.{actionRoom, onRecord}
 use Rattle.unit.specs.declared.state.State.{State}
 use Rattle.unit.specs.declared.search.Found.the-variants.{At, Vacant}
-use Rattle.unit.proofs.Shapes.{StepRefusal, RecordRefusal, Shape, refuses, notes, closesEvery, orders, calls, turns, shape, on-record, by-concern, step-numbered}
+use Rattle.unit.proofs.Shapes.{StepRefusal, RecordRefusal, Shape, refuses, notes, closesEvery, orders, calls, turns}
+use Rattle.unit.proofs.Shapes.{shape, on-record, by-concern, step-numbered}
 use Rattle.unit.proofs.Weights.{length-closed, closed-at}
 use Rattle.unit.specs.Kept.{here, weigh}
 use Rattle.unit.proofs.Searches.{found-ok}
@@ -144,7 +145,9 @@ turn-effect l p e (Held d ph q) held = after-effect (naming p e) d ph q (turn l 
     by (Connecting t) Up is = same
     by (Connecting t) Loss is = tt
     by (Connecting t) Timeout is =
-        cond-holds (onNext (λ next. (samePartner q p && true) ≡ true)) (ltb t (l .tries)) (Sends request (oneMore (Connecting t))) Released
+        cond-holds (onNext (λ next. (samePartner q p && true) ≡ true)) (ltb t (l .tries))
+        (Sends request (oneMore (Connecting t)))
+        Released
         same
         tt
     by (Connecting t) (Version v) is = tt
@@ -220,6 +223,7 @@ module _ (s : State) where
       step-places
 
   -- no step changes the limits
+  -- promise
   pub step-limits : (e : Event) → step s e .state .limits ≡ s .limits
   step-limits e = by (shape s e)
     where

@@ -118,7 +118,8 @@ facts-places l (p ∷ ps) facts =
 pub limits-tries : (l : Limits) → limitsOk l ≡ true → (1 ≤ l .tries) × (l .tries ≤ mostTries)
 limits-tries l ok =
     let tried = leb 1 (l .tries) && leb (l .tries) mostTries in
-    let h = and-right (leb (l .highest) highestX) tried (and-right (leb (l .lowest) (l .highest)) (leb (l .highest) highestX && tried) ok) in (
+    let x = leb (l .highest) highestX in
+    let h = and-right x tried (and-right (leb (l .lowest) (l .highest)) (x && tried) ok) in (
       leb-true 1 (l .tries) (and-left (leb 1 (l .tries)) (leb (l .tries) mostTries) h),
       leb-true (l .tries) mostTries (and-right (leb 1 (l .tries)) (leb (l .tries) mostTries) h),
     )
@@ -195,7 +196,9 @@ take-facts l ps i d ph p facts below good absent =
       λ q.
           let one = facts .1 q in
           let store = weigh-set (here (holds q)) ps i (seat d ph p) below in
-          cond-case (λ w. weigh (here (holds q)) (set ps i (seat d ph p)) + here (holds q) (getD ps i vacant) ≡ weigh (here (holds q)) ps + w → weigh (here (holds q)) (set ps i (seat d ph p)) ≤ 1) (samePartner q p) 1 0
+          let after = weigh (here (holds q)) (set ps i (seat d ph p)) in
+          cond-case (λ w. after + here (holds q) (getD ps i vacant) ≡ weigh (here (holds q)) ps + w → after ≤ 1)
+          (samePartner q p) 1 0
           (λ itself account.
           let none-q : weigh (here (holds q)) ps ≡ 0 = ap (λ r. weigh (here (holds r)) ps) (same-eq q p itself) ∙ absent in
           omega arith)
@@ -211,7 +214,11 @@ closed-here which ps q =
     (λ p. here-less (holds q p) (holds q (placeAfter p (closedBy which p))) (after-holds q p (closedBy which p)))
 
 -- and keeps the facts
-pub closedBy-facts : (l : Limits) → 1 ≤ l .tries → (which : Closing) (ps : List Place) → PlacesFacts l ps → PlacesFacts l (closed which ps)
+pub closedBy-facts : (l : Limits)
+    → 1 ≤ l .tries
+    → (which : Closing) (ps : List Place)
+    → PlacesFacts l ps
+    → PlacesFacts l (closed which ps)
 closedBy-facts l some-try which ps facts =
     let none = facts .0 in
     let account =

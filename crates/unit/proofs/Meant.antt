@@ -37,7 +37,10 @@ unfolding recalled
 recalled-ok p [] last named ok = ok
 recalled-ok p (number ∷ sent) last named ok = recalled-ok p sent _ named
     (cond-case (λ l. lastOk l ≡ true) (toRbc (act p number)) (Known (p .high) (p .middle) (p .low)) last
-    (λ to-rbc. own (isRbc p) (eqb (nidRbc p) reservedNumber) (and-right (eqb number established) (isRbc p) to-rbc) (and-right (partnerOk p) (not (reserved p)) named))
+    (λ to-rbc.
+    own (isRbc p) (eqb (nidRbc p) reservedNumber)
+    (and-right (eqb number established) (isRbc p) to-rbc)
+    (and-right (partnerOk p) (not (reserved p)) named))
     (λ other. ok))
   where
     own : (rbc nid : Bool) → rbc ≡ true → not (rbc && nid) ≡ true → not nid ≡ true

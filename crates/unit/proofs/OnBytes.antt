@@ -29,5 +29,10 @@ module _ (s : State) (bytes : List ℕ) where
     unfolding onRecord
     on-enough enough = simp (le-leb actionRoom room enough)
 
-    pub on-reading : actionRoom ≤ room → (r : Reading) → sound s ≡ true → reading bytes ≡ r → onRecord s bytes room ≡ onReading s r
+    pub on-reading :
+        actionRoom ≤ room
+        → (r : Reading)
+        → sound s ≡ true
+        → reading bytes ≡ r
+        → onRecord s bytes room ≡ onReading s r
     on-reading enough r good means = on-enough enough ∙ bytes-reading r good means

@@ -73,7 +73,8 @@ turn-quiet l t Ended calm = refl
 module _ (s : State) (mine : Partner → Bool)
     (held : (p : Partner) → mine p ≡ true → 1 ≤ weigh (here (holds p)) (s .places))
     (connecting : weigh (here (placePast mine)) (s .places) ≡ 0) where
-  closedBy-quiet : (which : Closing) (k : Holding) → count (otherFor mine) (actionsIn k (holdingClosedBy which k)) ≤ once (heldPast mine k)
+  closedBy-quiet : (which : Closing) (k : Holding)
+      → count (otherFor mine) (actionsIn k (holdingClosedBy which k)) ≤ once (heldPast mine k)
   unfolding count
   closedBy-quiet which Free = omega arith
   closedBy-quiet which (Held d ph p) =
@@ -88,7 +89,9 @@ module _ (s : State) (mine : Partner → Bool)
 
   closingActions-quiet : (which : Closing) → count (otherFor mine) (closingActions which (s .places)) ≡ 0
   closingActions-quiet which =
-      let few = closingActions-most (otherFor mine) (here (placePast mine)) which (λ place. closedBy-quiet which (place .holding)) (s .places) in
+      let few =
+      closingActions-most (otherFor mine) (here (placePast mine)) which (λ place. closedBy-quiet which (place .holding))
+      (s .places) in
       omega arith
 
   -- a partner that has no place is none of them

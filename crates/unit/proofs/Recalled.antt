@@ -96,6 +96,7 @@ module _ (s : State) where
   recalls (turns p event i ok found taken) = refl
 
   -- the last known RBC after a step is the one of its actions, or the one known before
+  -- promise
   pub step-last : (e : Event) → step s e .state .last ≡ recalled (s .last) (step s e .actions)
   step-last e = recalls (shape s e)
 

@@ -22,7 +22,8 @@ use Rattle.place.specs.declared.turn.Turn.{Turn}
 use Rattle.place.specs.declared.turn.Closing.the-variants.{Every}
 use Rattle.unit.specs.Lasts.{meant}
 use Rattle.unit.specs.States.{seek, standing}
-use Rattle.unit.specs.Steps.{refusedAt, refused, done, act, withMarks, withMission, markHole, holeTaken, inForce, closePlaces, admitted, orderedAt, calledAt, turnedAt, turned, namedAt, step, orderedTo}
+use Rattle.unit.specs.Steps.{refusedAt, refused, done, act, withMarks, withMission, markHole, holeTaken, inForce}
+use Rattle.unit.specs.Steps.{closePlaces, admitted, orderedAt, calledAt, turnedAt, turned, namedAt, step, orderedTo}
 use Rattle.unit.specs.Forms.{mostActions, noAction, listed}
 use Rattle.unit.specs.Changes.{pushed, pushAll}
 use Rattle.unit.specs.declared.state.State.{State}

@@ -7,3 +7,4 @@ pub mod Starting
 pub mod Steps
 pub mod Codes
 pub mod InTurn
+pub mod Stops

@@ -16,7 +16,8 @@ use Rattle.wire.proofs.Tests.{cond-case, cond-holds, true-false}
 use Rattle.record.proofs.Partners.{same-eq}
 use Rattle.place.specs.Places.{tries, seat}
 use Rattle.place.proofs.Holdings.{holdsIn, holdingTurn, holdingClosedBy}
-use Rattle.place.specs.Table.{request, established, firstTry, refuse, table, column, closing, oneMore, again, versionOf, play, closes, numbers, turn, placeAfter, closedBy}
+use Rattle.place.specs.Table.{request, established, firstTry, refuse, table, column, closing, oneMore, again, versionOf, play}
+use Rattle.place.specs.Table.{closes, numbers, turn, placeAfter, closedBy}
 use Rattle.place.specs.declared.phase.Phase.{Phase}
 use Rattle.place.specs.declared.phase.Phase.the-variants.{Connecting, Open}
 use Rattle.place.specs.declared.place.Direction.{Direction}
@@ -132,7 +133,8 @@ module _ (m : Sense) (σ : Scale) (mine : Partner → Bool) where
     closedBy-place which (Held d ph p) =
         let whole = weightOf σ mine (seat d ph p) in
         let after : Turn → ℕ = λ t. weightOf σ mine (placeAfter (seat d ph p) t) in
-        cond-holds (λ t. Balance m (count (counted σ mine) (map (act p) (numbers t)) + after t) (whole + 0)) (closes which ph p) (closing ph)
+        cond-holds (λ t. Balance m (count (counted σ mine) (map (act p) (numbers t)) + after t) (whole + 0)) (closes which ph p)
+        (closing ph)
         Stays
         (rw (nothing (mine p)) at (place-account d ph p 0 (closing ph) (balanced .closings ph)))
         (level m (0 + whole) (whole + 0) (omega arith))

@@ -1,7 +1,7 @@
 -- What a search finds, for any test and any number of places.
 -- Defines: FoundOk, SearchedTo.
--- Proves: first-passes, first-lowest, first-none, none-first, some-first, none-some, some-none, seek-ok, found-ok, seek-lowest, searched-more, searched-found,
--- searched-none, seek-at, seek-vacant, seek-full.
+-- Proves: first-passes, first-lowest, first-none, none-first, some-first, none-some, some-none, seek-ok, found-ok, seek-lowest,
+-- searched-more, searched-found, searched-none, seek-at, seek-vacant, seek-full.
 use mathlib.Core.Path.{_≡_, refl, sym, ap, ap₂, subst, subst⁻¹, _∙_}
 use mathlib.Core.Bool.{Bool, true, false, cond, _||_, not, true≢false}
 use mathlib.Core.List.{List, [], _∷_}

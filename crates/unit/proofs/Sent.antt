@@ -92,7 +92,8 @@ module _ (s : State) (mine : Partner → Bool) where
       (rw (count-one mine p (numbers (closing ph))) (cond-most (mine p) (length (numbers (closing ph))) 1 (closing-few ph)))
       (omega arith)
 
-  pub closingActions-for : (which : Closing) → count (actionFor mine) (closingActions which (s .places)) ≤ weigh (here (placeOf mine)) (s .places)
+  pub closingActions-for : (which : Closing)
+      → count (actionFor mine) (closingActions which (s .places)) ≤ weigh (here (placeOf mine)) (s .places)
   closingActions-for which =
       closingActions-most (actionFor mine) (here (placeOf mine)) which (λ place. closedBy-for which (place .holding)) (s .places)
 

@@ -28,7 +28,8 @@ use Rattle.place.specs.declared.turn.Closing.the-variants.{Every, Sessions, Not
 use Rattle.unit.specs.declared.last.Last.{Last}
 use Rattle.unit.specs.Lasts.{recalledBy, recalled}
 use Rattle.unit.specs.States.{placeCount, nowhere}
-use Rattle.unit.specs.Steps.{Outcome, refusedAt, done, act, actionsIn, withTrain, withMarks, withPlaces, closed, closingActions, closePlaces, takenIn, step, setAt}
+use Rattle.unit.specs.Steps.{Outcome, refusedAt, done, act, actionsIn, withTrain, withMarks, withPlaces}
+use Rattle.unit.specs.Steps.{closed, closingActions, closePlaces, takenIn, step, setAt}
 use Rattle.unit.specs.OnRecords.{written}
 use Rattle.unit.specs.Forms.{mostActions, listed, packed, stepped}
 use Rattle.unit.specs.Changes.{pushAll, given, sending, noted, closesAny, settled, made, carried, sentBehind, Appended}
@@ -151,12 +152,30 @@ module _ (s : State) where
       let told = second ∙ ap (λ l. recalledBy l (act p g)) first ∙ sym (recalled-both (s .last) p f g) in
       λ i.
       done
-      (record { limits = s .limits; train = s .train; marks = s .marks; places = set (closed-nothing (s .places) i) at place; last = told i })
+      (record {
+        limits = s .limits;
+        train = s .train;
+        marks = s .marks;
+        places = set (closed-nothing (s .places) i) at place;
+        last = told i;
+      })
       (closingActions-nothing (s .places) i ++ acts)
 
   -- a partner taken in after the closings
   pub carried-take : (m : Marks) (which : Closing) (at : ℕ) (p : Partner) (w : Standing)
-      → carried s (record { code = refusal.accepted; train = s .train; marks = m; which = which; at = at; place = seat Outgoing (Connecting firstTry) p; partner = p; first = request; second = 0; standing = w; last = s .last })
+      → carried s (record {
+        code = refusal.accepted;
+        train = s .train;
+        marks = m;
+        which = which;
+        at = at;
+        place = seat Outgoing (Connecting firstTry) p;
+        partner = p;
+        first = request;
+        second = 0;
+        standing = w;
+        last = s .last;
+      })
       ≡ takenIn (closePlaces which (withMarks s m)) at p
   unfolding carried made settled given
   carried-take m which at p w = refl
@@ -165,7 +184,9 @@ module _ (s : State) where
     -- past the last place none is set
     pub settled-past :
         length (s .places) ≤ c .at
-        → _≡_ {A = State} (record { limits = s .limits; train = c .train; marks = c .marks; places = s .places; last = c .last }) (settled s c)
+        → _≡_ {A = State}
+        (record { limits = s .limits; train = c .train; marks = c .marks; places = s .places; last = c .last })
+        (settled s c)
     unfolding settled
     settled-past above =
         let none = sym (set-past (s .places) (c .at) (c .place) above) in
@@ -202,8 +223,8 @@ module _ (s : State) where
           → r ≡ packed (made s c)
       packed-unclosed nothing-closed state pushes =
           let none = closesAny-none (c .which) nothing-closed in
-          let unclosed : closed (c .which) (s .places) ≡ s .places = ap (λ w. closed w (s .places)) none ∙ closed-nothing (s .places) in
-          let unsent : closingActions (c .which) (s .places) ≡ [] = ap (λ w. closingActions w (s .places)) none ∙ closingActions-nothing (s .places) in
+          let unclosed = ap (λ w. closed w (s .places)) none ∙ closed-nothing (s .places) in
+          let unsent = ap (λ w. closingActions w (s .places)) none ∙ closingActions-nothing (s .places) in
           packed-made
           (state ∙ ap (λ ps. settled (withPlaces s ps) c) (sym unclosed))
           (pushes ∙ ap (λ acts. pushAll (listed acts) (c .partner) (given (c .first) ++ given (c .second))) (sym unsent))
@@ -222,7 +243,7 @@ module _ (s : State) (c : Change) where
       × (buffer ≡ written (closingActions (c .which) (s .places)) buffer)
   unclosed buffer nothing-closed =
       let none = closesAny-none (c .which) nothing-closed in
-      let unsent : closingActions (c .which) (s .places) ≡ [] = ap (λ w. closingActions w (s .places)) none ∙ closingActions-nothing (s .places) in (
+      let unsent = ap (λ w. closingActions w (s .places)) none ∙ closingActions-nothing (s .places) in (
         ap (withPlaces s) (sym (ap (λ w. closed w (s .places)) none ∙ closed-nothing (s .places))),
         sym (ap length unsent),
         sym (ap (λ acts. written acts buffer) unsent ∙ written-none buffer),
@@ -236,9 +257,10 @@ module _ (s : State) (c : Change) where
       → (r ≡ stepped (made s c)) × (after ≡ written (made s c .actions) before)
   unfolding stepped made
   written-made next n r before between after state count wrote sent =
-      let total : n + length (sending c) ≡ length (closingActions (c .which) (s .places) ++ sending c) = omega (arith, count, made-length) in (
+      let acts = closingActions (c .which) (s .places) in
+      let total : n + length (sending c) ≡ length (acts ++ sending c) = omega (arith, count, made-length) in (
         sent .0 ∙ (λ i. record { code = refusal.accepted; state = settled (state i) c; count = total i; standing = nowhere }),
-        sent .1 (closingActions (c .which) (s .places)) before count wrote,
+        sent .1 acts before count wrote,
       )
 
 -- a refusal leaves the buffer as it is

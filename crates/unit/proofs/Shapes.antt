@@ -37,7 +37,8 @@ use Rattle.place.specs.declared.turn.Closing.the-variants.{Every}
 use Rattle.unit.specs.Lasts.{meant}
 use Rattle.unit.proofs.Meant.{meant-named}
 use Rattle.unit.specs.States.{seek, nowhere, standing, trainOk, marksOk, sound}
-use Rattle.unit.specs.Steps.{Outcome, refusedAt, refused, done, withTrain, withMarks, markHole, holeTaken, inForce, spend, displaced, closePlaces, takenIn, admitted, orderedAt, calledAt, turnedAt, namedAt, step}
+use Rattle.unit.specs.Steps.{Outcome, refusedAt, refused, done, withTrain, withMarks, markHole, holeTaken, inForce}
+use Rattle.unit.specs.Steps.{spend, displaced, closePlaces, takenIn, admitted, orderedAt, calledAt, turnedAt, namedAt, step}
 use Rattle.unit.specs.Standings.{Numbered, Concern, nobody, orderTo, callOf, naming, concern, concernOf}
 use Rattle.unit.specs.OnRecords.{actionRoom, onReading, onRecord}
 use Rattle.unit.specs.declared.state.Train.{Train}
@@ -175,7 +176,9 @@ module _ (s : State) where
       → Shape s (Call p) (callOf p) (admitted s (calledAt s p) found)
   called-shape p rbc (At i ph) found = refuses refusal.hasPlace (inl (omega arith)) (says i ph found (inl refl))
   called-shape p rbc (Vacant i) found = calls p i (λ ok. ok) rbc found
-  called-shape p rbc Full found = refuses refusal.allTaken (inl (omega arith)) (told-none (s .places) (callOf p) refusal.allTaken (λ h. omega arith) (λ h. omega arith))
+  called-shape p rbc Full found =
+      refuses refusal.allTaken (inl (omega arith))
+      (told-none (s .places) (callOf p) refusal.allTaken (λ h. omega arith) (λ h. omega arith))
 
   named-shape : (p : Partner) (e : PartnerEvent) (found : Found)
       → seek p (s .places) ≡ found
@@ -188,8 +191,12 @@ module _ (s : State) where
       (λ taken. turns p e i (and-left (namedOk p) (partnerEventOk e)) found taken)
       (λ other. refuses refusal.notTaken (inl (omega arith)) (says i ph found (inr refl)))
       )
-  named-shape p e (Vacant i) found = refuses refusal.hasNone (inl (omega arith)) (told-none (s .places) (naming p e) refusal.hasNone (λ h. omega arith) (λ h. omega arith))
-  named-shape p e Full found = refuses refusal.hasNone (inl (omega arith)) (told-none (s .places) (naming p e) refusal.hasNone (λ h. omega arith) (λ h. omega arith))
+  named-shape p e (Vacant i) found =
+      refuses refusal.hasNone (inl (omega arith))
+      (told-none (s .places) (naming p e) refusal.hasNone (λ h. omega arith) (λ h. omega arith))
+  named-shape p e Full found =
+      refuses refusal.hasNone (inl (omega arith))
+      (told-none (s .places) (naming p e) refusal.hasNone (λ h. omega arith) (λ h. omega arith))
 
   -- every step has one of the shapes
   pub shape : (e : Event) → Shape s e (concern (s .last) e) (step s e)
@@ -224,7 +231,9 @@ module _ (s : State) where
   shape (Call p) =
       cond-case (Shape s (Call p) (callOf p)) (isRbc p) _ _
       (λ rbc. called-shape p rbc (seek p (s .places)) refl)
-      (λ riu. refuses refusal.callFromRiu (inl (omega arith)) (told-none (s .places) (callOf p) refusal.callFromRiu (λ h. omega arith) (λ h. omega arith)))
+      (λ riu.
+      refuses refusal.callFromRiu (inl (omega arith))
+      (told-none (s .places) (callOf p) refusal.callFromRiu (λ h. omega arith) (λ h. omega arith)))
   shape (Named p e) = named-shape p e (seek p (s .places)) refl
 
   -- a law of a step on a record, by what the record and the state are refused for

@@ -38,7 +38,8 @@ use Rattle.unit.proofs.Shapes.{Shape, refuses, notes, closesEvery, orde
 use Rattle.unit.proofs.Weights.{length-closed}
 use Rattle.unit.specs.Kept.{here, weigh}
 use Rattle.unit.proofs.Searches.{found-ok}
-use Rattle.unit.proofs.Facts.{PlacesFacts, Facts, limits-tries, sound-facts, facts-sound, set-facts, take-facts, closed-here, closedBy-facts, place-at}
+use Rattle.unit.proofs.Facts.{PlacesFacts, Facts, limits-tries, sound-facts, facts-sound}
+use Rattle.unit.proofs.Facts.{set-facts, take-facts, closed-here, closedBy-facts, place-at}
 
 module _ (s : State) (f : Facts s) where
   some-try : 1 ≤ s .limits .tries

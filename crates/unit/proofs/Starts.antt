@@ -27,16 +27,20 @@ pub started-by : (l : Limits) (b t : Bool)
     → _≡_ {A = Started} (record { code = code t; state = s }) (coldStart l)
 unfolding coldStart
 started-by l b t test known s fresh =
-    ap (λ x. record { code = code t; state = x }) fresh
-    ∙ by t
-    ∙ ap (λ u. cond u (record { code = accepted; state = cold l }) (record { code = badLimits; state = cold noLimits })) (sym known ∙ test)
+    ap (λ x. record { code = code t; state = x }) fresh ∙ by t ∙ ap (λ u. cond u taken refused) (sym known ∙ test)
   where
-    by : (t : Bool)
-        → _≡_ {A = Started} (record { code = code t; state = cold (start t l) }) (cond t (record { code = accepted; state = cold l }) (record { code = badLimits; state = cold noLimits }))
+    taken : Started
+    taken = record { code = accepted; state = cold l }
+
+    refused : Started
+    refused = record { code = badLimits; state = cold noLimits }
+
+    by : (t : Bool) → _≡_ {A = Started} (record { code = code t; state = cold (start t l) }) (cond t taken refused)
     by true = refl
     by false = refl
 
 -- a cold start is sound, a refused one too
+-- promise
 pub cold-sound : (l : Limits) → sound (coldStart l .state) ≡ true
 unfolding coldStart cold sound placesOk
 cold-sound l =

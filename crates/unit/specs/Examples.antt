@@ -122,7 +122,8 @@ p3 : List Line
 p3 =
     ((5 ∷ 0 ∷ 0 ∷ 0 ∷ 5 ∷ 1 ∷ 1 ∷ []) sends (21 to rbcNo 5 ∷ []) leaves idle (out (Connecting 1) (rbcNo 5) ∷ []))
     ∷ ((8 ∷ 0 ∷ 0 ∷ 0 ∷ 5 ∷ []) sends (155 to rbcNo 5 ∷ []) leaves idle (out (Contacting 1) (rbcNo 5) ∷ []))
-    ∷ ((11 ∷ 0 ∷ 0 ∷ 0 ∷ 5 ∷ 32 ∷ 48 ∷ []) sends (154 to rbcNo 5 ∷ 156 to rbcNo 5 ∷ []) leaves idle (out (Ending 1) (rbcNo 5) ∷ []))
+    ∷ ((11 ∷ 0 ∷ 0 ∷ 0 ∷ 5 ∷ 32 ∷ 48 ∷ []) sends (154 to rbcNo 5 ∷ 156 to rbcNo 5 ∷ [])
+    leaves idle (out (Ending 1) (rbcNo 5) ∷ []))
     ∷ []
 
 -- "P4 version 47 there: 159, Open. Version 128: refusal 3."
@@ -142,8 +143,10 @@ called = idle (inc Open (rbcNo 1) ∷ inc Open (rbcNo 2) ∷ inc Open (rbcNo 3) 
 p5 : List Line
 p5 =
     ((11 ∷ 0 ∷ 0 ∷ 0 ∷ 1 ∷ 38 ∷ 0 ∷ []) sends (159 to rbcNo 1 ∷ []) leaves idle (inc Open (rbcNo 1) ∷ []) knowing 1)
-    ∷ ((11 ∷ 0 ∷ 0 ∷ 0 ∷ 2 ∷ 38 ∷ 0 ∷ []) sends (159 to rbcNo 2 ∷ []) leaves idle (inc Open (rbcNo 1) ∷ inc Open (rbcNo 2) ∷ []) knowing 2)
-    ∷ ((11 ∷ 0 ∷ 0 ∷ 0 ∷ 3 ∷ 38 ∷ 0 ∷ []) sends (159 to rbcNo 3 ∷ []) leaves idle (inc Open (rbcNo 1) ∷ inc Open (rbcNo 2) ∷ inc Open (rbcNo 3) ∷ []) knowing 3)
+    ∷ ((11 ∷ 0 ∷ 0 ∷ 0 ∷ 2 ∷ 38 ∷ 0 ∷ []) sends (159 to rbcNo 2 ∷ [])
+    leaves idle (inc Open (rbcNo 1) ∷ inc Open (rbcNo 2) ∷ []) knowing 2)
+    ∷ ((11 ∷ 0 ∷ 0 ∷ 0 ∷ 3 ∷ 38 ∷ 0 ∷ []) sends (159 to rbcNo 3 ∷ [])
+    leaves idle (inc Open (rbcNo 1) ∷ inc Open (rbcNo 2) ∷ inc Open (rbcNo 3) ∷ []) knowing 3)
     ∷ ((11 ∷ 0 ∷ 0 ∷ 0 ∷ 4 ∷ 38 ∷ 0 ∷ []) sends (159 to rbcNo 4 ∷ []) leaves called)
     ∷ ((11 ∷ 0 ∷ 0 ∷ 0 ∷ 5 ∷ 38 ∷ 0 ∷ []) gives 8 leaves called)
     ∷ ((11 ∷ 0 ∷ 0 ∷ 0 ∷ 1 ∷ 38 ∷ 0 ∷ []) says 5 at 0 phase 3 leaves called)
@@ -157,10 +160,14 @@ p6 = p5 ++ (((11 ∷ 1 ∷ 0 ∷ 0 ∷ 1 ∷ 38 ∷ 0 ∷ []) gives 9 leaves cal
 p7 : List Line
 p7 =
     ((11 ∷ 0 ∷ 0 ∷ 0 ∷ 1 ∷ 38 ∷ 0 ∷ []) sends (159 to rbcNo 1 ∷ []) leaves idle (inc Open (rbcNo 1) ∷ []) knowing 1)
-    ∷ ((5 ∷ 1 ∷ 0 ∷ 0 ∷ 2 ∷ 1 ∷ 1 ∷ []) sends (21 to riuNo 2 ∷ []) leaves idle (inc Open (rbcNo 1) ∷ out (Connecting 1) (riuNo 2) ∷ []) knowing 1)
-    ∷ ((8 ∷ 1 ∷ 0 ∷ 0 ∷ 2 ∷ []) sends (155 to riuNo 2 ∷ []) leaves idle (inc Open (rbcNo 1) ∷ out (Contacting 1) (riuNo 2) ∷ []) knowing 1)
-    ∷ ((11 ∷ 1 ∷ 0 ∷ 0 ∷ 2 ∷ 32 ∷ 17 ∷ []) sends (159 to riuNo 2 ∷ []) leaves idle (inc Open (rbcNo 1) ∷ out Open (riuNo 2) ∷ []) knowing 1)
-    ∷ ((5 ∷ 0 ∷ 0 ∷ 0 ∷ 3 ∷ 0 ∷ 1 ∷ []) sends (156 to rbcNo 1 ∷ 21 to rbcNo 3 ∷ []) leaves idle (inc (Ending 1) (rbcNo 1) ∷ out Open (riuNo 2) ∷ out (Connecting 1) (rbcNo 3) ∷ []) knowing 1)
+    ∷ ((5 ∷ 1 ∷ 0 ∷ 0 ∷ 2 ∷ 1 ∷ 1 ∷ []) sends (21 to riuNo 2 ∷ [])
+    leaves idle (inc Open (rbcNo 1) ∷ out (Connecting 1) (riuNo 2) ∷ []) knowing 1)
+    ∷ ((8 ∷ 1 ∷ 0 ∷ 0 ∷ 2 ∷ []) sends (155 to riuNo 2 ∷ [])
+    leaves idle (inc Open (rbcNo 1) ∷ out (Contacting 1) (riuNo 2) ∷ []) knowing 1)
+    ∷ ((11 ∷ 1 ∷ 0 ∷ 0 ∷ 2 ∷ 32 ∷ 17 ∷ []) sends (159 to riuNo 2 ∷ [])
+    leaves idle (inc Open (rbcNo 1) ∷ out Open (riuNo 2) ∷ []) knowing 1)
+    ∷ ((5 ∷ 0 ∷ 0 ∷ 0 ∷ 3 ∷ 0 ∷ 1 ∷ []) sends (156 to rbcNo 1 ∷ 21 to rbcNo 3 ∷ [])
+    leaves idle (inc (Ending 1) (rbcNo 1) ∷ out Open (riuNo 2) ∷ out (Connecting 1) (rbcNo 3) ∷ []) knowing 1)
     ∷ []
 
 -- "P8 mission 1, cause 0: level 1 gives 4, level 2 gives 21."
@@ -170,7 +177,8 @@ p8 =
     ∷ ((1 ∷ 1 ∷ 0 ∷ []) sends [] leaves box 1 1 noMarks [])
     ∷ ((5 ∷ 0 ∷ 0 ∷ 0 ∷ 5 ∷ 1 ∷ 0 ∷ []) gives 4 leaves box 1 1 noMarks [])
     ∷ ((1 ∷ 2 ∷ 0 ∷ []) sends [] leaves box 2 1 noMarks [])
-    ∷ ((5 ∷ 0 ∷ 0 ∷ 0 ∷ 5 ∷ 1 ∷ 0 ∷ []) sends (21 to rbcNo 5 ∷ []) leaves box 2 1 noMarks (out (Connecting 1) (rbcNo 5) ∷ []))
+    ∷ ((5 ∷ 0 ∷ 0 ∷ 0 ∷ 5 ∷ 1 ∷ 0 ∷ []) sends (21 to rbcNo 5 ∷ [])
+    leaves box 2 1 noMarks (out (Connecting 1) (rbcNo 5) ∷ []))
     ∷ []
 
 -- "P9 cold start, hole left: 7. Entered, left, order cause 4: 21; a second order cause 4 to another partner: 4."
@@ -210,24 +218,30 @@ knownThen =
     ∷ ((11 ∷ 0 ∷ 0 ∷ 0 ∷ 1 ∷ 38 ∷ 0 ∷ []) sends (159 to rbcNo 1 ∷ []) leaves idle (inc Open (rbcNo 1) ∷ []) knowing 1)
     ∷ ((9 ∷ 0 ∷ 0 ∷ 0 ∷ 1 ∷ []) sends (21 to rbcNo 1 ∷ []) leaves idle (inc (Lost 1) (rbcNo 1) ∷ []) knowing 1)
     ∷ ((6 ∷ 0 ∷ 0 ∷ 0 ∷ 1 ∷ []) sends (22 to rbcNo 1 ∷ []) leaves idle [] knowing 1)
-    ∷ ((5 ∷ 0 ∷ 255 ∷ 127 ∷ 255 ∷ 1 ∷ 1 ∷ []) sends (21 to rbcNo 1 ∷ []) leaves idle (out (Connecting 1) (rbcNo 1) ∷ []) knowing 1)
+    ∷ ((5 ∷ 0 ∷ 255 ∷ 127 ∷ 255 ∷ 1 ∷ 1 ∷ []) sends (21 to rbcNo 1 ∷ [])
+    leaves idle (out (Connecting 1) (rbcNo 1) ∷ []) knowing 1)
     ∷ ((5 ∷ 0 ∷ 0 ∷ 63 ∷ 255 ∷ 1 ∷ 1 ∷ []) says 5 at 0 phase 1 leaves idle (out (Connecting 1) (rbcNo 1) ∷ []) knowing 1)
     ∷ ((8 ∷ 0 ∷ 0 ∷ 127 ∷ 255 ∷ []) gives 3 leaves idle (out (Connecting 1) (rbcNo 1) ∷ []) knowing 1)
-    ∷ ((5 ∷ 1 ∷ 0 ∷ 63 ∷ 255 ∷ 1 ∷ 1 ∷ []) sends (21 to riuLast ∷ []) leaves idle (out (Connecting 1) (rbcNo 1) ∷ out (Connecting 1) riuLast ∷ []) knowing 1)
-    ∷ ((5 ∷ 0 ∷ 0 ∷ 63 ∷ 254 ∷ 1 ∷ 1 ∷ []) sends (21 to rbcNear ∷ []) leaves idle (out (Connecting 1) (rbcNo 1) ∷ out (Connecting 1) riuLast ∷ out (Connecting 1) rbcNear ∷ []) knowing 1)
+    ∷ ((5 ∷ 1 ∷ 0 ∷ 63 ∷ 255 ∷ 1 ∷ 1 ∷ []) sends (21 to riuLast ∷ [])
+    leaves idle (out (Connecting 1) (rbcNo 1) ∷ out (Connecting 1) riuLast ∷ []) knowing 1)
+    ∷ ((5 ∷ 0 ∷ 0 ∷ 63 ∷ 254 ∷ 1 ∷ 1 ∷ []) sends (21 to rbcNear ∷ [])
+    leaves idle (out (Connecting 1) (rbcNo 1) ∷ out (Connecting 1) riuLast ∷ out (Connecting 1) rbcNear ∷ []) knowing 1)
     ∷ []
 
 -- the four places taken by orders
 abbrev ordered : State
 ordered =
-    idle (out (Connecting 1) (rbcNo 1) ∷ out (Connecting 1) (rbcNo 2) ∷ out (Connecting 1) (rbcNo 3) ∷ out (Connecting 1) (rbcNo 4) ∷ [])
+    idle (out (Connecting 1) (rbcNo 1) ∷ out (Connecting 1) (rbcNo 2) ∷ out (Connecting 1) (rbcNo 3)
+    ∷ out (Connecting 1) (rbcNo 4) ∷ [])
 
 -- 15 comes before 8: all places taken, and none known
 fullThen : List Line
 fullThen =
     ((5 ∷ 0 ∷ 0 ∷ 0 ∷ 1 ∷ 1 ∷ 1 ∷ []) sends (21 to rbcNo 1 ∷ []) leaves idle (out (Connecting 1) (rbcNo 1) ∷ []))
-    ∷ ((5 ∷ 0 ∷ 0 ∷ 0 ∷ 2 ∷ 1 ∷ 1 ∷ []) sends (21 to rbcNo 2 ∷ []) leaves idle (out (Connecting 1) (rbcNo 1) ∷ out (Connecting 1) (rbcNo 2) ∷ []))
-    ∷ ((5 ∷ 0 ∷ 0 ∷ 0 ∷ 3 ∷ 1 ∷ 1 ∷ []) sends (21 to rbcNo 3 ∷ []) leaves idle (out (Connecting 1) (rbcNo 1) ∷ out (Connecting 1) (rbcNo 2) ∷ out (Connecting 1) (rbcNo 3) ∷ []))
+    ∷ ((5 ∷ 0 ∷ 0 ∷ 0 ∷ 2 ∷ 1 ∷ 1 ∷ []) sends (21 to rbcNo 2 ∷ [])
+    leaves idle (out (Connecting 1) (rbcNo 1) ∷ out (Connecting 1) (rbcNo 2) ∷ []))
+    ∷ ((5 ∷ 0 ∷ 0 ∷ 0 ∷ 3 ∷ 1 ∷ 1 ∷ []) sends (21 to rbcNo 3 ∷ [])
+    leaves idle (out (Connecting 1) (rbcNo 1) ∷ out (Connecting 1) (rbcNo 2) ∷ out (Connecting 1) (rbcNo 3) ∷ []))
     ∷ ((5 ∷ 0 ∷ 0 ∷ 0 ∷ 4 ∷ 1 ∷ 1 ∷ []) sends (21 to rbcNo 4 ∷ []) leaves ordered)
     ∷ ((5 ∷ 0 ∷ 0 ∷ 63 ∷ 255 ∷ 1 ∷ 1 ∷ []) gives 15 leaves ordered)
     ∷ []

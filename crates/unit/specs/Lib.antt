@@ -6,6 +6,7 @@ pub mod Concerns
 pub mod OnRecords
 pub mod Forms
 pub mod Examples
+pub mod ExampleBytes
 pub mod Changes
 pub mod Kept
 pub mod Runs

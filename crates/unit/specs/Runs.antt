@@ -1,11 +1,14 @@
 -- Document 01, "Run over a log".
 -- Defines: Course, course, stepsOf, steps, totalOf, noTotals, totalled, fresh, counted, ended, tallied, go, runRefused, run, takenUp,
--- sumOf, runCode, allCodes.
-use Prim.Native.Nat.{ℕ, zero, suc, _+_}
-use mathlib.Core.Bool.{Bool, true, cond, _&&_, _||_}
+-- sumOf, runCode, allCodes, StopsBy.
+use Prim.Native.Nat.{ℕ, zero, suc, _+_, _<_}
+use mathlib.Core.Path.{_≡_}
+use mathlib.Core.Logic.{_⊎_}
+use mathlib.Core.Bool.{Bool, true, false, cond, _&&_, _||_}
 use mathlib.Core.List.{List, [], _∷_}
 use lib.Dec.{eqb, leb}
 use lib.ListN.{length, take, drop}
+use Rattle.record.specs.Records.{known, lengthOf}
 use Rattle.record.specs.Takes.{nothingLeft, budgetUsed, longestLog, taken, onTaken}
 use Rattle.wire.specs.Refusals.{accepted, outOfRange, callFromRiu, notSound, logTooLong, noneKnown}
 use Rattle.place.specs.Table.{request, release, incompatible, initiate, terminate, established}
@@ -114,3 +117,12 @@ runCode code = eqb code accepted || ((leb outOfRange code && leb code callFromRi
 unfoldable pub allCodes : List Outcome → Bool
 allCodes [] = true
 allCodes (o ∷ os) = runCode (o .code) && allCodes os
+
+-- "nothing left, stop 0; budget used up, stop 1; kind unknown, stop 3; fewer bytes than the kind's length, stop 2": of a budget, the
+-- records read, the stop, and the rest of the log
+abbrev pub StopsBy : ℕ → ℕ → ℕ → List ℕ → Type 0
+StopsBy budget read stop [] = stop ≡ 0
+StopsBy budget read stop (kind ∷ rest) =
+    ((stop ≡ 1) × (read ≡ budget))
+    ⊎ ((read < budget)
+    × (((stop ≡ 3) × (known kind ≡ false)) ⊎ ((stop ≡ 2) × (known kind ≡ true) × (length (kind ∷ rest) < lengthOf kind))))

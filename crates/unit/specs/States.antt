@@ -1,6 +1,6 @@
 -- Document 01, "What the box remembers", with what requests Q-2 and Q-3 add to it: soundness of a state, and the cold starts.
--- Defines: placeCount, some, first, seek, nowhere, standing, highestX, limitsOk, trainOk, marksOk, absentFrom, placesOk, sound, noMarks, cold, noLimits,
--- coldStart, defaultStart.
+-- Defines: placeCount, some, first, seek, nowhere, standing, highestX, limitsOk, trainOk, marksOk, absentFrom, placesOk, sound, noMarks,
+-- cold, noLimits, coldStart, defaultStart.
 use Prim.Native.Nat.{ℕ, suc}
 use mathlib.Core.Bool.{Bool, true, false, cond, _&&_, not, _||_}
 use mathlib.Core.List.{List, [], _∷_}

@@ -1,7 +1,7 @@
 -- Document 01, "Rules of one step", with the meant partner of request Q-2: one step on values, for every kind of event.
--- Defines: Outcome, refusedAt, refused, done, withTrain, withMarks, withPlaces, recalling, act, markManual, withLevel, markMode, markHole, holeTaken,
--- atHole, actionsIn, closed, closingActions, closePlaces, withMission, atMission, radioLevel, inForce, spend, displaced, takenIn, admitted,
--- orderedAt, orderedTo, ordered, setAt, calledAt, called, turnedAt, turned, namedAt, step.
+-- Defines: Outcome, refusedAt, refused, done, withTrain, withMarks, withPlaces, recalling, act, markManual, withLevel, markMode, markHole,
+-- holeTaken, atHole, actionsIn, closed, closingActions, closePlaces, withMission, atMission, radioLevel, inForce, spend, displaced,
+-- takenIn, admitted, orderedAt, orderedTo, ordered, setAt, calledAt, called, turnedAt, turned, namedAt, step.
 use Prim.Native.Nat.{ℕ}
 use mathlib.Core.Bool.{Bool, true, false, cond, _&&_, _||_, not}
 use mathlib.Core.List.{List, [], _∷_, _++_, map}

@@ -257,7 +257,9 @@ impl Rest {
 
     // The run after a record of this length that made this change, its closings counted in these totals.
     fn accept(self, length: usize, change: Change, totals: Totals) -> Rest
-        requires { ⌜ (self .offset + length ≤ longestLog) × (self .read ≤ self .offset) × Below (mostTotal + mostActions) totals ⌝ }
+        requires { ⌜ (self .offset + length ≤ longestLog)
+            × (self .read ≤ self .offset)
+            × Below (mostTotal + mostActions) totals ⌝ }
         ensures { λ r. ⌜ r ≡ acceptedRest self length change totals ⌝ }
     {
         let limits = self.limits;

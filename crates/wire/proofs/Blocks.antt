@@ -33,7 +33,8 @@ module _ {A : Type 0} (bytesOf : A → List ℕ) (size : ℕ) (of-size : (a : A)
       let joined = length-append (bytesOf x) (blocks bytesOf xs) in
       omega arith
 
-  module _ (base : ℕ) (items : List A) (s : List ℕ) (i at : ℕ) (d : A) (below : i < length items) (begins : at ≡ base + size * i) (room : at + size ≤ length s) where
+  module _ (base : ℕ) (items : List A) (s : List ℕ) (i at : ℕ) (d : A)
+      (below : i < length items) (begins : at ≡ base + size * i) (room : at + size ≤ length s) where
     front : List ℕ
     front = take base s ++ blocks bytesOf (take i items)
 
@@ -79,7 +80,9 @@ module _ {A : Type 0} (bytesOf : A → List ℕ) (size : ℕ) (of-size : (a : A)
         ∙ ap (_++_ (blocks bytesOf (take i items))) (append-nil (bytesOf (getD items i d))))
 
     -- one more block
-    pub filled-more : sets (FilledTo bytesOf base items s i at) at (bytesOf (getD items i d)) ≡ FilledTo bytesOf base items s (i + 1) (at + size)
+    pub filled-more :
+        sets (FilledTo bytesOf base items s i at) at (bytesOf (getD items i d))
+        ≡ FilledTo bytesOf base items s (i + 1) (at + size)
     unfolding front block
     filled-more =
         ap (λ l. sets l at block) grouped

@@ -1,4 +1,5 @@
 pub mod Tests
 pub mod Blocks
 pub mod Padded
+pub mod Numbered
 pub mod OneAnswer

@@ -1,5 +1,6 @@
 -- Request Q-14: what a call of the step and one of the cold start answer and leave, in the numbers of the paper.
--- Proves: step-ten, step-unread, step-reads, step-refused, step-accepted, step-later, empty-asks, start-thirteen, start-ten, start-done.
+-- Proves: step-ten, step-unread, step-reads, step-refused, step-accepted, step-later, seenAfter-empty, start-thirteen, start-ten,
+-- start-done.
 use mathlib.Core.Path.{_≡_, refl, sym, ap, ap₂, _∙_}
 use mathlib.Core.Logic.{_↔_}
 use mathlib.Core.Bool.{Bool, true, false, cond}
@@ -7,12 +8,13 @@ use mathlib.Core.List.{List, [], _∷_, _++_}
 use Prim.Native.Nat.{ℕ, zero, suc, _*_, _≤_, _<_}
 use native.Mathlib.Omega.{arith}
 use lib.Dec.{eqb}
-use lib.IntN.{pos, negsuc, negℤ, natAbs}
+use lib.IntN.{ℤ, pos, negsuc, negℤ, natAbs}
 use lib.ListN.{length, drop}
 use borrow.Author.Tests.{eq-eqb, eqb-true, eqb-false, ne-eqb, le-leb}
 use Rattle.wire.specs.Refusals.{accepted, wrongLength, unknownKind, noRoom, notSound, badLimits}
 use Rattle.wire.proofs.Tests.{true-false, cond-case}
 use Rattle.record.specs.Records.{reading}
+use Rattle.place.specs.declared.limits.Limits.{Limits}
 use Rattle.unit.specs.Steps.{Outcome, refused}
 use Rattle.unit.specs.States.{sound, limitsOk, cold, noLimits, coldStart}
 use Rattle.unit.specs.OnRecords.{onReading, onRecord, written}
@@ -21,7 +23,7 @@ use Rattle.unit.specs.declared.start.Started.{Started}
 use Rattle.unit.proofs.Agreed.Writing.{written-none, written-later}
 use Rattle.unit.proofs.Facts.{sound-facts}
 use Rattle.unit.proofs.Starts.{cold-sound}
-use Rattle.unit.proofs.Agreed.Starts.{start-accepted, refused-number}
+use Rattle.unit.proofs.Agreed.Starts.{coldStart-accepted, coldStart-refused}
 use Rattle.image.specs.Images.{kindA2, sizeA2, imageA2, imagedA2, writeA2, stateIn, isBodyOf, readRefused, readBody, ofLength, readA2}
 use Rattle.image.specs.declared.write.Stored.{Stored}
 use Rattle.image.proofs.Bytes.{imageA2-length}
@@ -36,6 +38,10 @@ use Rattle.firmware.proofs.Calling.{onImage-next, next-written}
 use Rattle.firmware.proofs.Following.{written-length, done-returned, onImage-count, onImage-fits}
 
 module _ (image bytes actions : List ℕ) where
+  -- what a call shows of an outcome
+  abbrev shown : Outcome → Seen
+  shown o = record { number = returned o; image = imageAfter o image; actions = written (o .actions) actions }
+
   -- "10 for the action buffer", and nothing written
   -- promise
   pub step-ten :
@@ -43,8 +49,7 @@ module _ (image bytes actions : List ℕ) where
       → seenAfter image bytes actions ≡ record { number = negsuc 9; image = image; actions = actions }
   unfolding seenAfter
   step-ten short =
-      let is = onImage-no-room image bytes (length actions) short in
-      ap (λ (o : Outcome). record { number = returned o; image = imageAfter o image; actions = written (o .actions) actions }) is
+      ap shown (onImage-no-room image bytes (length actions) short)
       ∙ ap (λ l. record { number = negsuc 9; image = image; actions = l }) (written-none actions)
 
   module _ (enough : 20 ≤ length actions) where
@@ -55,9 +60,8 @@ module _ (image bytes actions : List ℕ) where
         → seenAfter image bytes actions ≡ record { number = negℤ (pos (readA2 image .code)); image = image; actions = actions }
     unfolding seenAfter
     step-unread other =
-        let is = onImage-unread image bytes (length actions) enough other in
         let b = ne-eqb (readA2 image .code) accepted other in
-        ap (λ (o : Outcome). record { number = returned o; image = imageAfter o image; actions = written (o .actions) actions }) is
+        ap shown (onImage-unread image bytes (length actions) enough other)
         ∙ (λ i.
         record {
           number = cond (b i) (pos 0) (negℤ (pos (readA2 image .code)));
@@ -85,11 +89,15 @@ module _ (image bytes actions : List ℕ) where
     unfolding seenAfter
     step-reads read =
         let o : Outcome = onRecord (readA2 image .state) bytes (length actions) in
-        ap (λ (x : Outcome). record { number = returned x; image = imageAfter x image; actions = written (x .actions) actions })
-        (onImage-steps image bytes (length actions) enough read)
-        ∙ ap
-        (λ l. record { number = returned o; image = cond (eqb (o .code) accepted) l image; actions = written (o .actions) actions })
-        (sym (next-written image bytes (length actions) read))
+        let with : List ℕ → Seen =
+        λ l.
+        record {
+          number = returned o;
+          image = cond (eqb (o .code) accepted) l image;
+          actions = written (o .actions) actions;
+        } in
+        ap shown (onImage-steps image bytes (length actions) enough read)
+        ∙ ap with (sym (next-written image bytes (length actions) read))
 
   -- "A refusal writes neither image nor actions": a number below 0, and nothing has changed
   -- promise
@@ -159,18 +167,21 @@ read-not-one (kind ∷ body) long =
     NotOne : Started → Type 0
     NotOne r = r .code ≡ 1 → ⊥
 
-empty-refused : (s : State) (room : ℕ) → 20 ≤ room → sound s ≡ true → onRecord s [] room ≡ refused wrongLength s
+empty-refused : (s : State) (room : ℕ)
+    → 20 ≤ room
+    → sound s ≡ true
+    → onRecord s [] room ≡ refused wrongLength s
 unfolding onRecord reading
 empty-refused s room enough good =
     ap₂ (λ a b. cond a (cond b (onReading s (reading [])) (refused notSound s)) (refused noRoom s)) (le-leb 20 room enough) good
 
 -- an empty record asks whether an image of 42 bytes reads: 1 if it does, and nothing has changed
 -- promise
-pub empty-asks : (image actions : List ℕ)
+pub seenAfter-empty : (image actions : List ℕ)
     → length image ≡ 42
     → 20 ≤ length actions
     → (seenAfter image [] actions .number ≡ negsuc 0) ↔ (readA2 image .code ≡ accepted)
-empty-asks image actions long enough = (
+seenAfter-empty image actions long enough = (
   (λ one. by (eqb (readA2 image .code) accepted) refl one),
   (λ read. ap (λ (x : Seen). x .number) (step-reads image [] actions enough read) ∙ refused-empty read),
 )
@@ -198,15 +209,20 @@ empty-asks image actions long enough = (
 
 -- the call of the cold start, by the three numbers that C gives
 module _ (lowest highest tries : ℕ) (image : List ℕ) where
-  refused-thirteen : (coldStart (limitsOf lowest highest tries) .code ≡ accepted → ⊥)
-      → coldStart (limitsOf lowest highest tries) .code ≡ 13
-  refused-thirteen other = by (limitsOk (limitsOf lowest highest tries)) refl
+  -- the limits that are asked for
+  abbrev m : Limits
+  m = limitsOf lowest highest tries
+
+  -- the number by whether the start is accepted
+  abbrev numbered : Bool → ℤ
+  numbered t = cond t (negℤ (pos (writeA2 (coldStart m .state) (length image) .code))) (negℤ (pos (coldStart m .code)))
+
+  refused-thirteen : (coldStart m .code ≡ accepted → ⊥) → coldStart m .code ≡ 13
+  refused-thirteen other = by (limitsOk m) refl
     where
-      by : (b : Bool) → limitsOk (limitsOf lowest highest tries) ≡ b → coldStart (limitsOf lowest highest tries) .code ≡ 13
-      by true ok =
-          let m = limitsOf lowest highest tries in
-          absurd (other (eqb-true (coldStart m .code) accepted (limits-started m ∙ ok)))
-      by false bad = refused-number (limitsOf lowest highest tries) bad
+      by : (b : Bool) → limitsOk m ≡ b → coldStart m .code ≡ 13
+      by true ok = absurd (other (eqb-true (coldStart m .code) accepted (limits-started m ∙ ok)))
+      by false bad = coldStart-refused m bad
 
   -- 13, "an X over 7 or lowest over highest", "also for n outside 1 to 9", and nothing written
   -- promise
@@ -215,42 +231,30 @@ module _ (lowest highest tries : ℕ) (image : List ℕ) where
       → (startReturned (limitsOf lowest highest tries) (length image) ≡ negsuc 12)
       × (startImage (limitsOf lowest highest tries) image ≡ image)
   start-thirteen outside =
-      let m = limitsOf lowest highest tries in
-      let other : coldStart m .code ≡ accepted → ⊥ = λ ok. outside (start-accepted m .0 ok) in
+      let other : coldStart m .code ≡ accepted → ⊥ = λ ok. outside (coldStart-accepted m .0 ok) in
       let b = ne-eqb (coldStart m .code) accepted other in (
-        ap (λ t. cond t (negℤ (pos (writeA2 (coldStart m .state) (length image) .code))) (negℤ (pos (coldStart m .code)))) b
+        ap numbered b
             ∙ ap (λ k. negℤ (pos k)) (refused-thirteen other),
         ap (λ t. cond t (imagedA2 (coldStart m .state) image) image) b,
       )
 
   module _ (within : (lowest ≤ highest) × (highest ≤ 7) × (1 ≤ tries) × (tries ≤ 9)) where
-    ok : coldStart (limitsOf lowest highest tries) .code ≡ accepted
-    ok = start-accepted (limitsOf lowest highest tries) .1 within
+    ok : coldStart m .code ≡ accepted
+    ok = coldStart-accepted m .1 within
 
-    state-is : coldStart (limitsOf lowest highest tries) .state
-        ≡ cold (record { lowest = lowest; highest = highest; tries = tries })
+    state-is : coldStart m .state ≡ cold (record { lowest = lowest; highest = highest; tries = tries })
     unfolding coldStart
     state-is =
-        let m = limitsOf lowest highest tries in
         let good = sym (limits-started m) ∙ eq-eqb (coldStart m .code) accepted ok in
         let pick : Bool → Started =
-        λ b.
-        cond b
-        (record { code = accepted; state = cold (limitsOf lowest highest tries) })
-        (record { code = badLimits; state = cold noLimits }) in
+        λ b. cond b (record { code = accepted; state = cold m }) (record { code = badLimits; state = cold noLimits }) in
         ap (λ b. pick b .state) good
 
-    number : startReturned (limitsOf lowest highest tries) (length image)
-        ≡ negℤ (pos (writeA2 (coldStart (limitsOf lowest highest tries) .state) (length image) .code))
-    number =
-        let m = limitsOf lowest highest tries in
-        ap (λ t. cond t (negℤ (pos (writeA2 (coldStart m .state) (length image) .code))) (negℤ (pos (coldStart m .code))))
-        (eq-eqb (coldStart m .code) accepted ok)
+    number : startReturned m (length image) ≡ negℤ (pos (writeA2 (coldStart m .state) (length image) .code))
+    number = ap numbered (eq-eqb (coldStart m .code) accepted ok)
 
-    buffer : startImage (limitsOf lowest highest tries) image ≡ imagedA2 (coldStart (limitsOf lowest highest tries) .state) image
-    buffer =
-        let m = limitsOf lowest highest tries in
-        ap (λ t. cond t (imagedA2 (coldStart m .state) image) image) (eq-eqb (coldStart m .code) accepted ok)
+    buffer : startImage m image ≡ imagedA2 (coldStart m .state) image
+    buffer = ap (λ t. cond t (imagedA2 (coldStart m .state) image) image) (eq-eqb (coldStart m .code) accepted ok)
 
     -- then 10, for a buffer under 42 bytes, and nothing written
     -- promise
@@ -259,7 +263,7 @@ module _ (lowest highest tries : ℕ) (image : List ℕ) where
         → (startReturned (limitsOf lowest highest tries) (length image) ≡ negsuc 9)
         × (startImage (limitsOf lowest highest tries) image ≡ image)
     start-ten short =
-        let law = wrote-a2-no-room (coldStart (limitsOf lowest highest tries) .state) image short in
+        let law = wrote-a2-no-room (coldStart m .state) image short in
         (number ∙ ap (λ (x : Stored). negℤ (pos (x .code))) (sym (law .0)), buffer ∙ sym (law .1))
 
     -- else 0, the image of the cold state at the front, and "later bytes stay"
@@ -270,8 +274,8 @@ module _ (lowest highest tries : ℕ) (image : List ℕ) where
         × (startImage (limitsOf lowest highest tries) image
         ≡ imageA2 (cold (record { lowest = lowest; highest = highest; tries = tries })) ++ drop 42 image)
     start-done room =
-        let m = limitsOf lowest highest tries in
-        let law = wrote-a2 (coldStart m .state) image room (imageA2 (coldStart m .state) ++ drop 42 image) (cold-sound m) refl in (
+        let whole = imageA2 (coldStart m .state) ++ drop 42 image in
+        let law = wrote-a2 (coldStart m .state) image room whole (cold-sound m) refl in (
           number ∙ ap (λ (x : Stored). negℤ (pos (x .code))) (sym (law .0)),
           buffer ∙ sym (law .1) ∙ ap (λ x. imageA2 x ++ drop 42 image) state-is,
         )

@@ -1,5 +1,5 @@
 -- Request Q-14: "Demands 2 and 3 are read through the images, starting from one that a cold start wrote".
--- Proves: places-seen, image-follows, numbers-follow, bytes-follow, sums-follow, seen-bound, seen-taken-in, seen-reached,
+-- Proves: imageA2-seen, image-follows, numbers-follow, bytes-follow, sums-follow, seen-bound, seen-taken-in, seen-reached,
 -- seen-waiting, seen-released-once.
 use mathlib.Core.Path.{_≡_, refl, sym, ap, ap₂, subst, _∙_}
 use mathlib.Core.Logic.{_↔_, _⊎_}
@@ -25,7 +25,7 @@ use Rattle.unit.specs.declared.state.State.{State}
 use Rattle.unit.specs.declared.answer.Action.{Action}
 use Rattle.unit.proofs.Facts.{sound-facts}
 use Rattle.unit.proofs.Starts.{cold-sound}
-use Rattle.unit.proofs.Agreed.Starts.{start-accepted}
+use Rattle.unit.proofs.Agreed.Starts.{coldStart-accepted}
 use Rattle.unit.proofs.Agreed.Writing.{written-front}
 use Rattle.image.specs.Images.{imageA2, imagedA2, readA2}
 use Rattle.image.proofs.Bytes.{imageA2-length}
@@ -39,7 +39,7 @@ use Rattle.history.specs.Reaching.{reaching, Sums, sumsOf}
 use Rattle.history.proofs.Along.{after-sound}
 use Rattle.history.proofs.Bounds.{bound}
 use Rattle.history.proofs.Reached.{reached}
-use Rattle.history.proofs.TakenIn.{demand-taken-in}
+use Rattle.history.proofs.TakenIn.{taken-in}
 use Rattle.history.proofs.Waiting.{waiting, released-once}
 use Rattle.firmware.specs.Calls.{returned, Seen}
 use Rattle.firmware.specs.Along.{Lent, recordsOf, roomy, seenAlong, lastImage, isAccepted, countOf, overSeen}
@@ -88,12 +88,12 @@ module _ (s : State) (good : sound s ≡ true) (history : List Lent) (enough : r
 
 -- the places that C counts in the image of a sound state are those of the state
 -- promise
-pub places-seen : (s : State) (p : Partner)
+pub imageA2-seen : (s : State) (p : Partner)
     → sound s ≡ true
     → (heldSeen (imageA2 s) ≡ placesHeld (s .places))
     × ((holdsSeen p (imageA2 s) ≡ 0) ↔ (holdsPlace p (s .places) ≡ false))
     × ((1 ≤ waitsSeen p (imageA2 s)) ↔ (waits p (s .places) ≡ true))
-places-seen s p good =
+imageA2-seen s p good =
     let four = sound-facts s good .four in
     (held-bytes s four, holds-bytes s four p, waits-bytes s four p)
 
@@ -119,7 +119,7 @@ module _ (lowest highest tries : ℕ)
     (history : List Lent)
     (enough : roomy history ≡ true) where
   accepted-start : coldStart (limitsOf lowest highest tries) .code ≡ accepted
-  accepted-start = start-accepted (limitsOf lowest highest tries) .1 within
+  accepted-start = coldStart-accepted (limitsOf lowest highest tries) .1 within
 
   good : sound (startedWith lowest highest tries) ≡ true
   good = cold-sound (limitsOf lowest highest tries)
@@ -238,7 +238,7 @@ module _ (lowest highest tries : ℕ)
       let s = startedWith lowest highest tries in
       let last = after s (recordsOf history) in
       ap₂ _+_ (same .1) (same .2)
-      ∙ demand-taken-in (limitsOf lowest highest tries) accepted-start (recordsOf history)
+      ∙ taken-in (limitsOf lowest highest tries) accepted-start (recordsOf history)
       ∙ sym
       (ap₂ _+_ (same .4)
       (ap heldSeen (image-follows .0) ∙ held-bytes last (sound-facts last (after-sound s good (recordsOf history)) .four)))

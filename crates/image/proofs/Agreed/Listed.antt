@@ -1,5 +1,5 @@
 -- Request Q-13: "It lists each changed field by its first offset, ascending"; and what is in no field stays.
--- Proves: told-changed, listed-field, listed-changed, unlisted-same, listed-ascends, rescued-length, outside-same, listed-byte,
+-- Proves: told-changed, listed-field, listed-changed, unlisted-same, listed-ascends, rescued-length, rescued-outside, listed-byte,
 -- listed-place, listed-last, listed-numbers, told-count, told-front.
 use mathlib.Core.Path.{_≡_, refl, sym, ap, subst, _∙_}
 use mathlib.Core.Logic.{_↔_}
@@ -162,13 +162,13 @@ kind-accepted (kind ∷ body) ok = by (eqb kind 0xA2) refl
         absurd (omega (arith, ok, two))
 
 -- promise
-pub outside-same : (image : List ℕ)
+pub rescued-outside : (image : List ℕ)
     → (byte (rescued image) 0 ≡ byte image 0)
     × (byte (rescued image) 1 ≡ byte image 1)
     × (byte (rescued image) 2 ≡ byte image 2)
     × (byte (rescued image) 37 ≡ byte image 37)
 unfolding imageA2 wholeBytes bodyBytes mended stateIn
-outside-same image =
+rescued-outside image =
     by-code
     (λ b. (byte b 0 ≡ byte image 0) × (byte b 1 ≡ byte image 1) × (byte b 2 ≡ byte image 2) × (byte b 37 ≡ byte image 37))
     image

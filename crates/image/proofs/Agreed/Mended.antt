@@ -1,5 +1,5 @@
 -- Request Q-13: what an accepted rescue makes of each field, in the bytes of the image.
--- Proves: level-mended, mission-mended, marks-mended, end-mended, place-sound, sound-place, place-mended, last-mended.
+-- Proves: level-mended, mission-mended, marks-mended, end-mended, isPlaceOf-holds, isPlaceOf-means, place-mended, last-mended.
 use mathlib.Core.Path.{_≡_, refl, sym, ap, ap₂, _∙_}
 use mathlib.Core.Bool.{Bool, true, false, cond, _&&_, not}
 use mathlib.Core.List.{List, [], _∷_, _++_}
@@ -98,11 +98,11 @@ module _ (image : List ℕ) (ok : rescue image .code ≡ accepted) where
 
 -- "a place that is not sound by itself": seven bytes pass exactly where some place, sound by itself, writes them
 -- promise
-pub place-sound : (l : Limits) (s : List ℕ) (p : Place)
+pub isPlaceOf-holds : (l : Limits) (s : List ℕ) (p : Place)
     → placeOk l p ≡ true
     → take placeSize s ≡ placeBytes p
     → (isPlaceOf l s ≡ true) × (placeIn s ≡ p)
-place-sound l s p good own =
+isPlaceOf-holds l s p good own =
     let s-is : s ≡ placeBytes p ++ drop placeSize s = sym (take-append-drop placeSize s) ∙ ap (λ f. f ++ drop placeSize s) own in
     let read : placeIn s ≡ p = ap placeIn s-is ∙ placeIn-bytes (p .holding) (drop placeSize s) in (
       and-both (placeOk l (placeIn s)) (sameBytes (placeBytes (placeIn s)) (take placeSize s)) (ap (placeOk l) read ∙ good)
@@ -111,10 +111,10 @@ place-sound l s p good own =
     )
 
 -- promise
-pub sound-place : (l : Limits) (s : List ℕ)
+pub isPlaceOf-means : (l : Limits) (s : List ℕ)
     → isPlaceOf l s ≡ true
     → (placeOk l (placeIn s) ≡ true) × (take placeSize s ≡ placeBytes (placeIn s))
-sound-place l s is =
+isPlaceOf-means l s is =
     let own = sameBytes (placeBytes (placeIn s)) (take placeSize s) in (
       and-left (placeOk l (placeIn s)) own is,
       sym (bytes-same (placeBytes (placeIn s)) (take placeSize s) (and-right (placeOk l (placeIn s)) own is)),
@@ -128,7 +128,7 @@ place-bytes l s b = by (isPlaceOf l s) b refl
     by : (good b : Bool)
         → isPlaceOf l s ≡ good
         → placeBytes (cond b (cond good (placeIn s) vacant) vacant) ≡ cond (good && b) (take placeSize s) (replicate placeSize 0)
-    by true true is = sym (sound-place l s is .1)
+    by true true is = sym (isPlaceOf-means l s is .1)
     by true false is = refl
     by false true is = refl
     by false false is = refl

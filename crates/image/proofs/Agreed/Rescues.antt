@@ -18,7 +18,7 @@ use Rattle.wire.proofs.Tests.{and-left, and-right, cond-holds}
 use Rattle.place.specs.declared.limits.Limits.{Limits}
 use Rattle.unit.specs.States.{some, limitsOk, placesOk, coldStart, sound}
 use Rattle.unit.specs.declared.start.Started.{Started}
-use Rattle.unit.proofs.Agreed.Starts.{start-accepted}
+use Rattle.unit.proofs.Agreed.Starts.{coldStart-accepted}
 use Rattle.image.specs.Images.{bodyBytes, wholeBytes, imageA2, placesIn, stateIn, sameBytes, isBodyOf, readRefused, readA2}
 use Rattle.image.specs.Rescue.{mendPlaces, keepFirst, mended, changed, told, spoilt, rescue, rescued}
 use Rattle.image.specs.Rescue.{spoiltExample, mendedExample, everyExample}
@@ -78,9 +78,9 @@ module _ (image : List ℕ) where
     rescue-accepted = (
       (λ ok.
           let good = limits-started limits ∙ ap limitsOk (sym (limits-at image)) ∙ accepted-limits image ok in
-          start-accepted limits .0 (eqb-true (coldStart limits .code) accepted good)),
+          coldStart-accepted limits .0 (eqb-true (coldStart limits .code) accepted good)),
       (λ within.
-          let started = eq-eqb (coldStart limits .code) accepted (start-accepted limits .1 within) in
+          let started = eq-eqb (coldStart limits .code) accepted (coldStart-accepted limits .1 within) in
           taken (ap limitsOk (limits-at image) ∙ sym (limits-started limits) ∙ started)),
     )
       where
@@ -157,13 +157,18 @@ rescue-twice image = by (eqb (rescue image .code) accepted) refl
         let law = rescue-refused image (eqb-false (rescue image .code) accepted refused) in
         (ap rescued (law .0), ap (λ b. told (rescue b)) (law .0) ∙ law .1)
 
+-- reading and all that it goes through, opened as one where it runs on a written image
+reads : List ℕ → Started
+unfolding readA2 imageA2 wholeBytes bodyBytes stateIn placesIn sameBytes sound placesOk some blocks
+reads image = readA2 image
+
 -- three tries; inside 7 beside a hole end of 1; RBC 5 with four tries, and good twice; a free place with a byte of 9; the reserved RBC
 -- promise
 pub rescue-example :
     (rescue spoiltExample
     ≡ record { code = 0; fields = 5 ∷ 9 ∷ 23 ∷ 30 ∷ 38 ∷ 0 ∷ 0 ∷ 0 ∷ 0 ∷ 0 ∷ 0 ∷ []; count = 5 })
     × (rescued spoiltExample ≡ mendedExample)
-unfolding rescue rescued readA2 imageA2 wholeBytes bodyBytes stateIn placesIn sameBytes sound placesOk some mended mendPlaces keepFirst changed blocks
+unfolding rescue rescued reads mended mendPlaces keepFirst changed
 rescue-example = (refl, refl)
 
 -- every field bad
@@ -171,5 +176,5 @@ rescue-example = (refl, refl)
 pub rescue-every :
     rescue everyExample
     ≡ record { code = 0; fields = 3 ∷ 4 ∷ 5 ∷ 6 ∷ 7 ∷ 8 ∷ 9 ∷ 16 ∷ 23 ∷ 30 ∷ 38 ∷ []; count = 11 }
-unfolding rescue readA2 imageA2 wholeBytes bodyBytes stateIn placesIn sameBytes sound placesOk some mended mendPlaces keepFirst changed blocks
+unfolding rescue reads mended mendPlaces keepFirst changed
 rescue-every = refl

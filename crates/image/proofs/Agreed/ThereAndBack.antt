@@ -1,5 +1,6 @@
 -- Request Q-4: what A1 is read as, and "there and back gives the same bytes".
--- Proves: read-both, a1-read, a1-back, a2-back.
+-- Defines: state.
+-- Proves: read-both, good, from-a1, from-a2, a1-read, a1-back, a2-back.
 use mathlib.Core.Path.{_≡_, ap, _∙_}
 use mathlib.Core.Logic.{⊎-elim}
 use mathlib.Core.Bool.{true}
@@ -25,15 +26,14 @@ pub read-both : (s : State)
 read-both s ok fits = (readA1-written s ok fits, read-written s ok)
 
 module _ (bytes : List ℕ) (ok : readImage bytes .code ≡ accepted) where
-  state : State
+  abbrev pub state : State
   state = readImage bytes .state
 
-  good : sound state ≡ true
-  unfolding state
+  pub good : sound state ≡ true
   good = written-read bytes ok .0
 
-  from-a1 : byte bytes 0 ≡ kindA1 → (fitsA1 state ≡ true) × (imageA1 state ≡ bytes)
-  unfolding state imageA2
+  pub from-a1 : byte bytes 0 ≡ kindA1 → (fitsA1 state ≡ true) × (imageA1 state ≡ bytes)
+  unfolding imageA2
   from-a1 kind =
       ⊎-elim
       (λ a2.
@@ -42,8 +42,8 @@ module _ (bytes : List ℕ) (ok : readImage bytes .code ≡ accepted) where
       (λ a1. a1)
       (written-read bytes ok .1)
 
-  from-a2 : byte bytes 0 ≡ kindA2 → imageA2 state ≡ bytes
-  unfolding state imageA1
+  pub from-a2 : byte bytes 0 ≡ kindA2 → imageA2 state ≡ bytes
+  unfolding imageA1
   from-a2 kind =
       ⊎-elim
       (λ a2. a2)
@@ -55,13 +55,11 @@ module _ (bytes : List ℕ) (ok : readImage bytes .code ≡ accepted) where
   -- "A1 is read as n = 3 and none known"
   -- promise
   pub a1-read : byte bytes 0 ≡ kindA1 → (readImage bytes .state .limits .tries ≡ 3) × (readImage bytes .state .last ≡ Unknown)
-  unfolding state
   a1-read kind = fitsA1-means state .0 (from-a1 kind .0)
 
   -- from A1 to A2 and back
   -- promise
   pub a1-back : byte bytes 0 ≡ kindA1 → imageA1 (readImage (imageA2 (readImage bytes .state)) .state) ≡ bytes
-  unfolding state
   a1-back kind = ap (λ r. imageA1 (r .state)) (read-written state good) ∙ from-a1 kind .1
 
   -- from A2 to A1, which holds the state, and back
@@ -69,5 +67,4 @@ module _ (bytes : List ℕ) (ok : readImage bytes .code ≡ accepted) where
   pub a2-back : byte bytes 0 ≡ kindA2
       → fitsA1 (readImage bytes .state) ≡ true
       → imageA2 (readImage (imageA1 (readImage bytes .state)) .state) ≡ bytes
-  unfolding state
   a2-back kind fits = ap (λ r. imageA2 (r .state)) (readA1-written state good fits) ∙ from-a2 kind

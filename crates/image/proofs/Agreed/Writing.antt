@@ -1,6 +1,6 @@
 -- Writing an image: which of the refusals a write answers, and what a refused one leaves.
 -- Proves: fitsA1-means, writeA2-no-room, writeA2-unsound, writeA2-accepted, writeA1-no-room, writeA1-unsound, writeA1-unfit,
--- writeA1-accepted, writeA2-kept, writeA1-kept, imagedA2-kept, imagedA1-kept,
+-- writeA1-accepted, write-state, writeA2-kept, writeA1-kept, imagedA2-kept, imagedA1-kept,
 -- imagedA2-written, imagedA1-written.
 use mathlib.Core.Path.{_≡_, refl, ap}
 use mathlib.Core.Logic.{_↔_}
@@ -99,6 +99,18 @@ module _ (s : State) (room : ℕ) where
     where
       Then : Stored → Type 0
       Then r = r .code ≡ accepted → (37 ≤ room) × (sound s ≡ true) × (s .limits .tries ≡ 3) × (s .last ≡ Unknown)
+
+  -- a write hands back the state as given, where it is accepted too
+  -- promise
+  pub write-state : (writeA2 s room .state ≡ s) × (writeA1 s room .state ≡ s)
+  unfolding writeA2 writeA1
+  write-state = (
+    cond-holds Same (leb sizeA2 room) _ _ (cond-holds Same (sound s) _ _ refl refl) refl,
+    cond-holds Same (leb sizeA1 room) _ _ (cond-holds Same (sound s) _ _ (cond-holds Same (fitsA1 s) _ _ refl refl) refl) refl,
+  )
+    where
+      Same : Stored → Type 0
+      Same r = r .state ≡ s
 
   -- "A refused .. write returns its number, the state as given, counts 0"
   abbrev Kept : Stored → Type 0

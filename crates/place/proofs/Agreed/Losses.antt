@@ -20,7 +20,8 @@ unfolding turn
 lost-sends l t Drop = refl
 lost-sends l t Up = refl
 lost-sends l t Loss = refl
-lost-sends l t Timeout = cond-holds (λ x. ownNumbers (numbers x) ≡ true) (ltb t (l .tries)) (Sends request (Lost (t + 1))) Released refl refl
+lost-sends l t Timeout =
+    cond-holds (λ x. ownNumbers (numbers x) ≡ true) (ltb t (l .tries)) (Sends request (Lost (t + 1))) Released refl refl
 lost-sends l t (Version v) = refl
 lost-sends l t Ended = refl
 

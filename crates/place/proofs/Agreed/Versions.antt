@@ -15,4 +15,6 @@ pub judged-x : (l : Limits) (v w : ℕ)
     → v / 16 ≡ w / 16
     → judged l v ≡ judged l w
 judged-x l v w same =
-    ap (λ x. cond (leb (l .lowest) x && leb x (l .highest)) (Sends established Open) (SendsBoth incompatible terminate (Ending firstTry))) same
+    let good = Sends established Open in
+    let bad = SendsBoth incompatible terminate (Ending firstTry) in
+    ap (λ x. cond (leb (l .lowest) x && leb x (l .highest)) good bad) same

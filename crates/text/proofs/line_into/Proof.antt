@@ -1,23 +1,54 @@
 -- The line, put to the front.
 use borrow.Author.Needs.{needs}
 use mathlib.Core.Path.{_≡_, sym, _∙_}
+use mathlib.Core.List.{List}
+use Prim.Native.Nat.{ℕ, _≤_}
 use native.Mathlib.Omega.{arith}
 use denote.Ref.{now}
 use lib.ListN.{length, length-map, length-take, take}
+use Rattle.unit.specs.declared.answer.Action.{Action}
 use Rattle.text.proofs.Room.{line-room}
 use Rattle.text.specs.Texts.{lineText}
+use Rattle.text.specs.Making.{textRoom}
 use Rattle.text.proofs.Pushing.{placed-text, placed-used}
 use Rattle.text.proofs.line_into.Statement.{statement}
 use Rattle.text.proofs.line_into.Tie as tie
 
-four : (c : tie.Start) → length (c .args .actions .items) ≡ 4
-four c = sym (length-map (c .args .actions .items) _) ∙ c .good .1 .1 .1 .1 .0 .1 .1 .0 .1 .0 .1
+-- the text of the line has room
+module _ (c : tie.Start) where
+  abbrev items : List Action
+  items = c .args .actions .items
+
+  four : length items ≡ 4
+  four = sym (length-map items _) ∙ c .good .1 .1 .1 .1 .0 .1 .1 .0 .1 .0 .1
+
+  abbrev number : ℕ
+  number = c .args .number
+
+  abbrev kind : ℕ
+  kind = c .args .kind
+
+  abbrev code : ℕ
+  code = c .args .code
+
+  abbrev text : List ℕ
+  text = lineText number kind code (take (c .args .actions .count) items)
+
+  room : length text ≤ textRoom
+  room = line-room number kind code _ (simp length-take (omega (arith, four)))
 
 place-requires : tie.Need-place-requires
-place-requires c κs = placed-used _ (lineText (c .before .before .before .args .number) (c .before .before .before .args .kind) (c .before .before .before .args .code) (take (c .before .before .before .args .actions .count) (c .before .before .before .args .actions .items))) (c .before .line .ensures) (line-room (c .before .before .before .args .number) (c .before .before .before .args .kind) (c .before .before .before .args .code) (take (c .before .before .before .args .actions .count) (c .before .before .before .args .actions .items)) (simp length-take (omega (arith, four (c .before .before .before)))))
+place-requires c κs =
+    let made = c .before in
+    let start = made .before .before in
+    placed-used _ (text start) (made .line .ensures) (room start)
 
 returns : tie.Need-returns
-returns c = placed-text _ (lineText (c .before .before .before .before .before .before .args .number) (c .before .before .before .before .before .before .args .kind) (c .before .before .before .before .before .before .args .code) (take (c .before .before .before .before .before .before .args .actions .count) (c .before .before .before .before .before .before .args .actions .items))) (now (c .before .before .before .before .before .before .args .buffer)) _ _ (c .before .before .before .before .line .ensures) (line-room (c .before .before .before .before .before .before .args .number) (c .before .before .before .before .before .before .args .kind) (c .before .before .before .before .before .before .args .code) (take (c .before .before .before .before .before .before .args .actions .count) (c .before .before .before .before .before .before .args .actions .items)) (simp length-take (omega (arith, four (c .before .before .before .before .before .before))))) (c .before .before .place .ensures)
+returns c =
+    let placed = c .before .before in
+    let made = placed .before .before in
+    let start = made .before .before in
+    placed-text _ (text start) (now (start .args .buffer)) _ _ (made .line .ensures) (room start) (placed .place .ensures)
 
 pub line-into-spec : {M : Type 1} → statement M
 line-into-spec = tie.close (tie.spec (λ c κs. search needs) place-requires (λ c. search needs) returns)

@@ -1,5 +1,5 @@
 -- What an end all leaves, and which place an order takes.
--- Proves: closed-done, end-all-closes, mission-closes, order-place.
+-- Proves: closed-done, end-all-closes, mission-closes, absent, order-place.
 use mathlib.Core.Path.{_≡_, refl, sym, ap, subst, _∙_}
 use mathlib.Core.Bool.{Bool, true, false, _&&_}
 use mathlib.Core.List.{List, [], _∷_}
@@ -85,7 +85,7 @@ unfolding step
 mission-closes s = closed-done Every (s .places)
 
 -- a partner without a place stands at no number
-absent : (p : Partner) (ps : List Place) (i : ℕ) → weigh (here (holds p)) ps ≡ 0 → holds p (getD ps i vacant) ≡ true → ⊥
+pub absent : (p : Partner) (ps : List Place) (i : ℕ) → weigh (here (holds p)) ps ≡ 0 → holds p (getD ps i vacant) ≡ true → ⊥
 unfolding weigh
 absent p [] i none held =
     let wrong : once false ≡ once true = ap once held in
@@ -103,12 +103,13 @@ module _ (s : State) (p : Partner) where
   ordered-place accepting cause (Vacant j) ok h i held =
       let which = displaced p accepting in
       let none = closed-here which (s .places) p in
+      let taken = seat Outgoing (Connecting firstTry) p in
       cond-case {A = ℕ} (λ k. isFree (getD (s .places) i vacant) ≡ true) (eqb i j) 0 0
       (λ same. subst (λ k. isFree (getD (s .places) k vacant) ≡ true) (sym (eqb-true i j same)) (ok .1))
       (λ other.
       absurd
       (absent p (closed which (s .places)) i (omega (arith, ok .2))
-      (sym (ap (holds p) (getD-set-other (closed which (s .places)) j i (seat Outgoing (Connecting firstTry) p) vacant (eqb-false i j other)))
+      (sym (ap (holds p) (getD-set-other (closed which (s .places)) j i taken vacant (eqb-false i j other)))
       ∙ held)))
   ordered-place accepting cause Full ok h i held = absurd (omega arith)
 

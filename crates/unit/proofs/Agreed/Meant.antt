@@ -1,27 +1,30 @@
 -- Request Q-2: whom an order means, and which states hold the reserved number.
--- Proves: meant-known, meant-itself, order-meant, sound-places, sound-last, unsound-eleven.
+-- Proves: meant-known, meant-none, meant-itself, toRbc-means, order-meant, sound-places, sound-last, onRecord-eleven.
 use mathlib.Core.Path.{_≡_, refl, sym, ap, _∙_}
+use mathlib.Core.Logic.{_↔_}
 use mathlib.Core.Bool.{Bool, true, false, cond, _&&_, not}
 use mathlib.Core.List.{List}
 use Prim.Native.Nat.{ℕ, _≤_, _<_}
 use native.Mathlib.Omega.{arith}
+use lib.Dec.{eqb}
 use lib.ListN.{getD}
-use borrow.Author.Tests.{le-leb}
+use borrow.Author.Tests.{le-leb, eqb-true, eq-eqb}
 use Rattle.record.specs.Partners.{partnerOk, reserved}
 use Rattle.record.specs.declared.partner.Partner.{Partner}
 use Rattle.record.specs.declared.event.Cause.{Cause}
 use Rattle.record.specs.declared.event.Event.the-variants.{Order}
 use Rattle.wire.specs.Refusals as refusal
-use Rattle.wire.proofs.Tests.{and-left, and-right, true-false}
+use Rattle.wire.proofs.Tests.{and-left, and-right, and-both, true-false}
 use Rattle.place.specs.Places.{vacant, partnerOf, phaseOk, fits}
 use Rattle.place.proofs.Holdings.{holdingOk}
 use Rattle.place.specs.declared.place.Holding.{Holding}
 use Rattle.place.specs.declared.place.Holding.the-variants.{Free, Held}
 use Rattle.place.specs.declared.limits.Limits.{Limits}
-use Rattle.unit.specs.Lasts.{rbcOf, lastOk, knownOr, meant}
+use Rattle.unit.specs.Lasts.{rbcOf, lastOk, knownOr, meant, toRbc}
 use Rattle.unit.specs.States.{placeCount, sound}
 use Rattle.unit.specs.Steps.{refused, inForce, orderedTo, step}
-use Rattle.unit.specs.OnRecords.{actionRoom, applied, onRecord}
+use Rattle.unit.specs.OnRecords.{actionRoom, onRecord}
+use Rattle.unit.specs.declared.answer.Action.{Action}
 use Rattle.unit.specs.declared.last.Last.{Last}
 use Rattle.unit.specs.declared.last.Last.the-variants.{Unknown, Known}
 use Rattle.unit.specs.declared.state.State.{State}
@@ -33,6 +36,23 @@ pub meant-known : (high middle low : ℕ) (p : Partner)
     → reserved p ≡ true
     → meant (Known high middle low) p ≡ record { kind = 0; high = high; middle = middle; low = low }
 meant-known high middle low p is = ap (λ b. cond b (rbcOf high middle low) p) is
+
+-- where none is known, the reserved number stands for itself, and the order gets 15
+-- promise
+pub meant-none : (p : Partner) → meant Unknown p ≡ p
+meant-none p = by (reserved p)
+  where
+    by : (b : Bool) → cond b p p ≡ p
+    by true = refl
+    by false = refl
+
+-- "the most recent 159 sent to an RBC"
+-- promise
+pub toRbc-means : (a : Action) → (toRbc a ≡ true) ↔ ((a .number ≡ 159) × (a .partner .kind ≡ 0))
+toRbc-means a = (
+  (λ h. (eqb-true (a .number) 159 (and-left _ _ h), eqb-true (a .partner .kind) 0 (and-right (eqb (a .number) 159) _ h))),
+  (λ h. and-both _ _ (eq-eqb (a .number) 159 (h .0)) (eq-eqb (a .partner .kind) 0 (h .1))),
+)
 
 -- any other partner means itself
 -- promise
@@ -58,7 +78,8 @@ pub order-meant : (s : State) (p : Partner) (accepting : Bool) (cause : Cause)
     → step s (Order p accepting cause) ≡ step s (Order (meant (s .last) p) accepting cause)
 unfolding step
 order-meant s p accepting cause =
-    ap (λ q. cond (inForce cause (s .train) (s .marks)) (orderedTo s q accepting cause) (refused refusal.notInForce s)) (meant-twice (s .last) p)
+    ap (λ q. cond (inForce cause (s .train) (s .marks)) (orderedTo s q accepting cause) (refused refusal.notInForce s))
+    (meant-twice (s .last) p)
 
 by-not : (b : Bool) → not b ≡ true → b ≡ false
 by-not true h = true-false false h refl
@@ -89,9 +110,9 @@ module _ (s : State) (ok : sound s ≡ true) where
 
 -- and a state that is not sound is refused with 11, whatever the record
 -- promise
-pub unsound-eleven : (s : State) (bytes : List ℕ) (room : ℕ)
+pub onRecord-eleven : (s : State) (bytes : List ℕ) (room : ℕ)
     → 20 ≤ room
     → sound s ≡ false
     → onRecord s bytes room .code ≡ 11
 unfolding onRecord
-unsound-eleven s bytes room enough bad = simp (le-leb actionRoom room enough, bad)
+onRecord-eleven s bytes room enough bad = simp (le-leb actionRoom room enough, bad)

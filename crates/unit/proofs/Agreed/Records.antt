@@ -1,26 +1,43 @@
--- A run goes on after a record, and counts one that it refuses.
--- Proves: both-read, refusal-counted.
-use mathlib.Core.Path.{_≡_, refl, ap}
-use mathlib.Core.Bool.{cond}
-use mathlib.Core.List.{[], _∷_}
-use Prim.Native.Nat.{ℕ, _+_}
+-- A run goes on after a record, counts one that it refuses, and counts each action of a step.
+-- Proves: go-both, counted-refusal, totalOf-counts.
+use mathlib.Core.Path.{_≡_, refl, ap, _∙_}
+use mathlib.Core.Bool.{Bool, true, false, cond}
+use mathlib.Core.List.{List, [], _∷_}
+use Prim.Native.Nat.{ℕ, suc, _+_}
+use lib.Dec.{eqb}
+use native.Mathlib.Omega.{arith}
 use borrow.Author.Tests.{ne-eqb}
 use Rattle.wire.specs.Refusals.{accepted}
 use Rattle.unit.specs.Steps.{Outcome}
 use Rattle.record.specs.Takes.{takeOne, taken}
-use Rattle.unit.specs.Runs.{course, counted, tallied, go}
+use Rattle.unit.specs.Runs.{course, totalOf, counted, tallied, go}
+use Rattle.unit.specs.Kept.{count}
+use Rattle.unit.specs.declared.answer.Action.{Action}
 use Rattle.unit.specs.declared.run.Tally.{Tally}
 
 -- of two records, here two mode changes, both are read
 -- promise
-pub both-read : (t : Tally) → go 2 t (3 ∷ 3 ∷ []) .tally .read ≡ t .read + 1 + 1
+pub go-both : (t : Tally) → go 2 t (3 ∷ 3 ∷ []) .tally .read ≡ t .read + 1 + 1
 unfolding course tallied taken takeOne counted
-both-read t = refl
+go-both t = refl
 
 -- "A record refused with 3 to 9 is counted": as refused
 -- promise
-pub refusal-counted : (t : Tally) (k : ℕ) (o : Outcome)
+pub counted-refusal : (t : Tally) (k : ℕ) (o : Outcome)
     → (o .code ≡ accepted → ⊥)
     → counted t k o .refused ≡ t .refused + 1
 unfolding counted
-refusal-counted t k o refused = ap (λ b. t .refused + cond b 0 1) (ne-eqb (o .code) accepted refused)
+counted-refusal t k o refused = ap (λ b. t .refused + cond b 0 1) (ne-eqb (o .code) accepted refused)
+
+-- "a total for each of the six actions": how many of a step's actions have the number
+-- promise
+pub totalOf-counts : (number : ℕ) (acts : List Action) → totalOf number acts ≡ count (λ a. eqb (a .number) number) acts
+unfolding totalOf count
+totalOf-counts number [] = refl
+totalOf-counts number (a ∷ acts) =
+    by (eqb (a .number) number)
+    ∙ ap (_+_ (cond (eqb (a .number) number) 1 0)) (totalOf-counts number acts)
+  where
+    by : (b : Bool) → cond b (suc (totalOf number acts)) (totalOf number acts) ≡ cond b 1 0 + totalOf number acts
+    by true = omega arith
+    by false = omega arith

@@ -1,8 +1,8 @@
 -- Request Q-6: refusals 5 and 7 say which place the partner has and in which phase, and no other answer does.
--- Proves: step-told, onRecord-told, step-stands, step-says, step-silent, step-hole, place-stands, refused-says, others-silent,
--- nobody-silent.
+-- Proves: step-told, onRecord-told, step-stands, step-says, step-silent, step-nobody, onRecord-stands, onRecord-says, onRecord-silent,
+-- onRecord-nobody.
 use mathlib.Core.Path.{_≡_, refl, sym, ap, subst}
-use mathlib.Core.Logic.{_⊎_, inl, inr, ⊎-elim}
+use mathlib.Core.Logic.{inl, inr, ⊎-elim}
 use mathlib.Core.List.{List}
 use Prim.Native.Nat.{ℕ}
 use native.Mathlib.Omega.{arith}
@@ -22,7 +22,8 @@ use Rattle.unit.specs.declared.state.State.{State}
 use Rattle.unit.specs.declared.search.Found.the-variants.{At}
 use Rattle.unit.specs.declared.search.Standing.{Standing}
 use Rattle.unit.proofs.Searches.{found-ok}
-use Rattle.unit.proofs.Shapes.{ToldOf, says, silent, Told, told-none, Shape, refuses, notes, closesEvery, orders, calls, turns, shape, by-reading}
+use Rattle.unit.proofs.Shapes.{ToldOf, says, silent, Told, told-none}
+use Rattle.unit.proofs.Shapes.{Shape, refuses, notes, closesEvery, orders, calls, turns, shape, by-reading}
 use Rattle.unit.proofs.Facts.{sound-facts}
 
 module _ (s : State) where
@@ -122,7 +123,10 @@ module _ (s : State) where
 
     -- "Refusals 5 and 7 then carry place and phase": a refused order, call or partner's event always says them
     -- promise
-    pub step-says : (concern (s .last) e ≡ nobody → ⊥) → Numbered (step s e .code) → Says (s .places) (concern (s .last) e) (step s e .standing)
+    pub step-says :
+        (concern (s .last) e ≡ nobody → ⊥)
+        → Numbered (step s e .code)
+        → Says (s .places) (concern (s .last) e) (step s e .standing)
     step-says = said-always (s .places) (concern (s .last) e) (step s e .code) (step s e .standing) four (step-told s e)
 
   module _ (e : Event) where
@@ -133,14 +137,17 @@ module _ (s : State) where
 
     -- "7 for a hole": an event that concerns nobody
     -- promise
-    pub step-hole : concern (s .last) e ≡ nobody → step s e .standing ≡ nowhere
-    step-hole none = subst (λ c. Told (s .places) c (step s e .code) (step s e .standing)) none (step-told s e)
+    pub step-nobody : concern (s .last) e ≡ nobody → step s e .standing ≡ nowhere
+    step-nobody none = subst (λ c. Told (s .places) c (step s e .code) (step s e .standing)) none (step-told s e)
 
   -- the step on a record, from any state at all
   module _ (bytes : List ℕ) (room : ℕ) where
     by-step : (P : ℕ → Standing → Type 0)
         → ((r : ℕ) → (Numbered r → ⊥) → P r nowhere)
-        → ((r : ℕ) (w : Standing) → length (s .places) ≡ placeCount → Told (s .places) (concernOf (s .last) (reading bytes)) r w → P r w)
+        → ((r : ℕ) (w : Standing)
+        → length (s .places) ≡ placeCount
+        → Told (s .places) (concernOf (s .last) (reading bytes)) r w
+        → P r w)
         → P (onRecord s bytes room .code) (onRecord s bytes room .standing)
     by-step P refusals steps =
         by-reading s (λ o. P (o .code) (o .standing)) bytes room
@@ -152,33 +159,33 @@ module _ (s : State) where
         (subst (λ x. Told (s .places) (concernOf (s .last) x) (step s e .code) (step s e .standing)) (sym is) (step-told s e)))
 
     -- promise
-    pub place-stands :
+    pub onRecord-stands :
         (onRecord s bytes room .standing .place ≡ placeCount → ⊥)
         → Says (s .places) (concernOf (s .last) (reading bytes)) (onRecord s bytes room .standing)
-    place-stands =
+    onRecord-stands =
         let c = concernOf (s .last) (reading bytes) in
         by-step (λ r w. (w .place ≡ placeCount → ⊥) → Says (s .places) c w)
         (λ r other place. absurd (place refl))
         (λ r w. said-there (s .places) c r w)
 
     -- promise
-    pub refused-says :
+    pub onRecord-says :
         (concernOf (s .last) (reading bytes) ≡ nobody → ⊥)
         → Numbered (onRecord s bytes room .code)
         → Says (s .places) (concernOf (s .last) (reading bytes)) (onRecord s bytes room .standing)
-    refused-says some =
+    onRecord-says some =
         let c = concernOf (s .last) (reading bytes) in
         by-step (λ r w. Numbered r → Says (s .places) c w)
         (λ r other number. absurd (other number))
         (λ r w four told. said-always (s .places) c r w four told some)
 
     -- promise
-    pub others-silent : (Numbered (onRecord s bytes room .code) → ⊥) → onRecord s bytes room .standing ≡ nowhere
-    others-silent =
+    pub onRecord-silent : (Numbered (onRecord s bytes room .code) → ⊥) → onRecord s bytes room .standing ≡ nowhere
+    onRecord-silent =
         said-else (s .places) (concernOf (s .last) (reading bytes)) (onRecord s bytes room .code) (onRecord s bytes room .standing)
         (onRecord-told s bytes room)
 
     -- promise
-    pub nobody-silent : concernOf (s .last) (reading bytes) ≡ nobody → onRecord s bytes room .standing ≡ nowhere
-    nobody-silent none =
+    pub onRecord-nobody : concernOf (s .last) (reading bytes) ≡ nobody → onRecord s bytes room .standing ≡ nowhere
+    onRecord-nobody none =
         subst (λ c. Told (s .places) c (onRecord s bytes room .code) (onRecord s bytes room .standing)) none (onRecord-told s bytes room)

@@ -22,7 +22,8 @@ use Rattle.unit.specs.declared.state.State.{State}
 use Rattle.unit.proofs.Shapes.{StepRefusal, Shape, refuses, notes, closesEvery, orders, calls, turns, shape}
 use Rattle.unit.proofs.Sound.{onRecord-sound}
 use Rattle.record.specs.Takes.{longestLog, takeOne, taken, onTaken}
-use Rattle.unit.specs.Runs.{stops, applies, course, stepsOf, steps, fresh, go, runRefused, run, runCode, allCodes}
+use Rattle.unit.specs.Runs.{Course, stops, applies, course, stepsOf, steps, fresh, go, runRefused, run, runCode, allCodes}
+use Rattle.unit.specs.declared.run.Report.{Report}
 use Rattle.record.specs.declared.take.Taken.{Taken}
 use Rattle.record.specs.declared.take.Taken.the-variants as front
 use Rattle.unit.proofs.Runs.Applied.{applied-reading}
@@ -82,10 +83,13 @@ steps-codes (suc budget) s (x ∷ log) good small =
     next : ℕ → Outcome
     next k = onRecord s (take k (x ∷ log)) actionRoom
 
+    on : ℕ → Course
+    on k = applies (take k (x ∷ log)) (next k) (course budget (next k .state) (drop k (x ∷ log)))
+
     by : (found : Taken)
         → taken (x ∷ log) ≡ found
         → ((k : ℕ) → allCodes (steps budget (next k .state) (drop k (x ∷ log))) ≡ true)
-        → allCodes (stepsOf (onTaken found stops (λ k. applies (take k (x ∷ log)) (next k) (course budget (next k .state) (drop k (x ∷ log)))))) ≡ true
+        → allCodes (stepsOf (onTaken found stops on)) ≡ true
     by (front.Stopped stop) e rest = refl
     by (front.Refused r) e rest = refl
     by (front.Whole k r) e rest =
@@ -104,9 +108,12 @@ pub run-codes : (s : State) (log : List ℕ) (budget : ℕ)
     → allCodes (steps budget s log) ≡ true
 unfolding run
 run-codes s log budget =
-    cond-case (λ r. r .code ≡ refusal.accepted → allCodes (steps budget s log) ≡ true) (leb (length log) longestLog) (cond (sound s) (go budget (fresh s) log) (runRefused refusal.notSound s)) (runRefused refusal.logTooLong s)
+    let goes = go budget (fresh s) log in
+    let unsound = runRefused refusal.notSound s in
+    let Known : Report → Type 0 = λ r. r .code ≡ refusal.accepted → allCodes (steps budget s log) ≡ true in
+    cond-case Known (leb (length log) longestLog) (cond (sound s) goes unsound) (runRefused refusal.logTooLong s)
     (λ fits.
-    cond-case (λ r. r .code ≡ refusal.accepted → allCodes (steps budget s log) ≡ true) (sound s) (go budget (fresh s) log) (runRefused refusal.notSound s)
+    cond-case Known (sound s) goes unsound
     (λ good h. steps-codes budget s log good (leb-true (length log) longestLog fits))
     (λ bad h. absurd (omega arith)))
     (λ long h. absurd (omega arith))

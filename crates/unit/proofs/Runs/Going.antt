@@ -48,16 +48,20 @@ whole-ok log at k r below e = subst (WholeOk log at) (sym (by-kind log at below)
     whole : Taken
     whole = Whole l (reading (take l (drop at log)))
 
-    facts : WholeOk log at (cond (known (getD log at 0)) (cond (leb l (length log - at)) whole (Stopped recordShort)) (Stopped kindUnknown))
+    or-short : Taken
+    or-short = cond (leb l (length log - at)) whole (Stopped recordShort)
+
+    facts : WholeOk log at (cond (known (getD log at 0)) or-short (Stopped kindUnknown))
     facts =
-        cond-case (WholeOk log at) (known (getD log at 0)) (cond (leb l (length log - at)) whole (Stopped recordShort)) (Stopped kindUnknown)
+        cond-case (WholeOk log at) (known (getD log at 0)) or-short (Stopped kindUnknown)
         (λ is-known.
         cond-case (WholeOk log at) (leb l (length log - at)) whole (Stopped recordShort)
         (λ fits. (refl, ltb-true 0 l is-known, leb-true l (length log - at) fits, refl))
         (λ short. tt))
         (λ unknown. tt)
 
-module _ (log : List ℕ) (t : Tally) (k : ℕ) (r : Reading) (below : t .offset < length log) (small : length log ≤ longestLog) (e : takeOne (drop (t .offset) log) ≡ Whole k r) where
+module _ (log : List ℕ) (t : Tally) (k : ℕ) (r : Reading) (below : t .offset < length log) (small : length log ≤ longestLog)
+    (e : takeOne (drop (t .offset) log) ≡ Whole k r) where
   -- what counting it asks
   pub whole-ready :
       Bounded t
@@ -89,16 +93,20 @@ module _ (log : List ℕ) (t : Tally) (k : ℕ) (r : Reading) (below : t .offset
     pub run-next : (left : ℕ)
         → Bounded t
         → (left ≡ 0 → ⊥)
-        → (u .offset ≤ length log) × Bounded u × (sound (u .state) ≡ true) × (go left t (drop (t .offset) log) ≡ go (left - 1) u (drop (u .offset) log))
+        → (u .offset ≤ length log)
+        × Bounded u
+        × (sound (u .state) ≡ true)
+        × (go left t (drop (t .offset) log) ≡ go (left - 1) u (drop (u .offset) log))
     unfolding next
     run-next left bounded some =
-        let ok = whole-ok log (t .offset) k r below e in (
+        let ok = whole-ok log (t .offset) k r below e in
+        let short : length (drop (t .offset) log) ≤ longestLog = simp length-drop (omega (arith, small)) in (
           omega (arith, offset-next, ok .2),
           subst Bounded (sym is-next)
               (bounded-next t k (onRecord (t .state) (take k (drop (t .offset) log)) actionRoom) bounded (ok .1)
               (onRecord-few (t .state) (take k (drop (t .offset) log)) actionRoom)),
           ap (sound) state-next ∙ onRecord-sound (t .state) (take k (drop (t .offset) log)) actionRoom good,
-          go-step t left some (drop (t .offset) log) k r (taken-short (drop (t .offset) log) (simp length-drop (omega (arith, small))) ∙ e)
+          go-step t left some (drop (t .offset) log) k r (taken-short (drop (t .offset) log) short ∙ e)
               ∙ ap₂ (λ x l. go (left - 1) x l) (sym is-next) (drop-drop k (t .offset) log ∙ ap (λ m. drop m log) (sym offset-next)),
         )
 
@@ -108,7 +116,11 @@ module _ (log : List ℕ) (t : Tally) (k : ℕ) (r : Reading) (below : t .offset
         → t .read ≤ budget
         → (t .read ≡ budget → ⊥)
         → before ≡ go (budget - t .read) t (drop (t .offset) log)
-        → (u .offset ≤ length log) × Bounded u × (sound (u .state) ≡ true) × (u .read ≤ budget) × (before ≡ go (budget - u .read) u (drop (u .offset) log))
+        → (u .offset ≤ length log)
+        × Bounded u
+        × (sound (u .state) ≡ true)
+        × (u .read ≤ budget)
+        × (before ≡ go (budget - u .read) u (drop (u .offset) log))
     unfolding next counted
     run-again budget before bounded within some so-far =
         let read : u .read ≡ t .read + 1 = ap (λ x. x .read) is-next in

@@ -1,5 +1,6 @@
 -- Request Q-8: the run is taking and applying in turn, so it can be broken off and taken up again.
--- Proves: course-next, tallied-offset, go-split, run-split, run-again.
+-- Proves: course-next, tallied-offset, ended-code, counted-offset, counted-read, run-facts, some, go-suc, run-goes, go-next, go-ends,
+-- go-split, run-split, run-again.
 use mathlib.Core.Path.{_≡_, refl, sym, ap, ap₂, _∙_}
 use mathlib.Core.Bool.{Bool, true, false, cond}
 use mathlib.Core.List.{List, [], _∷_}
@@ -15,7 +16,7 @@ use Rattle.unit.specs.States.{sound}
 use Rattle.unit.specs.Steps.{Outcome}
 use Rattle.unit.specs.OnRecords.{actionRoom, onRecord}
 use Rattle.record.specs.Takes.{longestLog, taken}
-use Rattle.unit.specs.Runs.{Course, stops, applies, course, counted, fresh, tallied, go, runRefused, run, takenUp}
+use Rattle.unit.specs.Runs.{Course, stops, applies, course, noTotals, counted, fresh, tallied, go, runRefused, run, takenUp}
 use Rattle.unit.specs.declared.state.State.{State}
 use Rattle.unit.specs.declared.run.Tally.{Tally}
 use Rattle.unit.specs.declared.run.Report.{Report}
@@ -46,7 +47,7 @@ tallied-offset t (applies bytes o rest) =
     omega arith
 
 -- whether a run is refused does not hang on its budget
-ended-code : (t : Tally) (c : Course) → tallied t c .code ≡ refusal.accepted
+pub ended-code : (t : Tally) (c : Course) → tallied t c .code ≡ refusal.accepted
 unfolding tallied
 ended-code t (stops stop) = refl
 ended-code t (applies bytes o rest) = ended-code (counted t (length bytes) o) rest
@@ -56,15 +57,17 @@ unfolding run
 run-code s log a b =
     by (leb (length log) longestLog) (sound s)
   where
-    by : (fits good : Bool)
-        → cond fits (cond good (go a (fresh s) log) (runRefused refusal.notSound s)) (runRefused refusal.logTooLong s) .code ≡ refusal.accepted
-        → cond fits (cond good (go b (fresh s) log) (runRefused refusal.notSound s)) (runRefused refusal.logTooLong s) .code ≡ refusal.accepted
+    ran : Bool → Bool → ℕ → Report
+    ran fits good budget =
+        cond fits (cond good (go budget (fresh s) log) (runRefused refusal.notSound s)) (runRefused refusal.logTooLong s)
+
+    by : (fits good : Bool) → ran fits good a .code ≡ refusal.accepted → ran fits good b .code ≡ refusal.accepted
     by true true h = ended-code (fresh s) (course b s log)
     by true false h = h
     by false good h = h
 
 -- where a run is after a record
-counted-offset : (t : Tally) (k : ℕ) (o : Outcome) → counted t k o .offset ≡ t .offset + k
+pub counted-offset : (t : Tally) (k : ℕ) (o : Outcome) → counted t k o .offset ≡ t .offset + k
 unfolding counted
 counted-offset t k o = refl
 
@@ -72,12 +75,12 @@ counted-state : (t : Tally) (k : ℕ) (o : Outcome) → counted t k o .state ≡
 unfolding counted
 counted-state t k o = refl
 
-counted-read : (t : Tally) (k : ℕ) (o : Outcome) → counted t k o .read ≡ t .read + 1
+pub counted-read : (t : Tally) (k : ℕ) (o : Outcome) → counted t k o .read ≡ t .read + 1
 unfolding counted
 counted-read t k o = refl
 
 -- a run that is not refused has a log of the right length and a sound state
-run-facts : (s : State) (log : List ℕ) (b : ℕ)
+pub run-facts : (s : State) (log : List ℕ) (b : ℕ)
     → run s log b .code ≡ refusal.accepted
     → (length log ≤ longestLog) × (sound s ≡ true)
 unfolding run
@@ -101,16 +104,53 @@ unfolding course tallied
 go-none t [] = refl
 go-none t (x ∷ log) = refl
 
-some : (b : ℕ) → suc b ≡ 0 → ⊥
+pub some : (b : ℕ) → suc b ≡ 0 → ⊥
 some b e = omega arith
 
-go-suc : (b : ℕ) (t : Tally) (log : List ℕ) (k : ℕ) (r : Reading)
+pub go-suc : (b : ℕ) (t : Tally) (log : List ℕ) (k : ℕ) (r : Reading)
     → taken log ≡ Whole k r
     → go (suc b) t log ≡ go b (counted t k (onRecord (t .state) (take k log) actionRoom)) (drop k log)
 go-suc b t log k r e =
     let u = counted t k (onRecord (t .state) (take k log) actionRoom) in
     let less : suc b - 1 ≡ b = omega arith in
     go-step t (suc b) (some b) log k r e ∙ ap (λ j. go j u (drop k log)) less
+
+-- a run that is not refused goes from the state as given, with nothing counted yet
+-- promise
+pub run-goes : (s : State) (log : List ℕ) (budget : ℕ)
+    → run s log budget .code ≡ refusal.accepted
+    → (run s log budget ≡ go budget (fresh s) log)
+    × (fresh s .state ≡ s)
+    × (fresh s .offset ≡ 0)
+    × (fresh s .read ≡ 0)
+    × (fresh s .refused ≡ 0)
+    × (fresh s .totals ≡ noTotals)
+run-goes s log budget accepted = (is-go s log budget accepted, refl, refl, refl, refl, refl)
+
+-- where it stops, state, offset and counts are those reached
+-- promise
+pub go-ends : (t : Tally) (log : List ℕ)
+    → (go 0 t log .tally ≡ t)
+    × ((b stop : ℕ) → taken log ≡ Stopped stop → (go (suc b) t log .tally ≡ t) × (go (suc b) t log .stop ≡ stop))
+go-ends t log = (
+  go-none t log,
+  (λ b stop e.
+      let stopped = sym (go-stop t (suc b) (some b) log stop e) in
+      (ap (λ r. r .tally) stopped, ap (λ r. r .stop) stopped)),
+)
+
+-- "The answer holds the last state, .. the offset reached, records read": after each record the state is that of its step, and the run is
+-- its length further
+-- promise
+pub go-next : (b : ℕ) (t : Tally) (log : List ℕ) (k : ℕ) (r : Reading)
+    → taken log ≡ Whole k r
+    → (go (suc b) t log ≡ go b (counted t k (onRecord (t .state) (take k log) actionRoom)) (drop k log))
+    × (counted t k (onRecord (t .state) (take k log) actionRoom) .state ≡ onRecord (t .state) (take k log) actionRoom .state)
+    × (counted t k (onRecord (t .state) (take k log) actionRoom) .offset ≡ t .offset + k)
+    × (counted t k (onRecord (t .state) (take k log) actionRoom) .read ≡ t .read + 1)
+go-next b t log k r e =
+    let o = onRecord (t .state) (take k log) actionRoom in
+    (go-suc b t log k r e, counted-state t k o, counted-offset t k o, counted-read t k o)
 
 -- a run that has taken no record goes on from where it began
 from-here : (b : ℕ) (t u : Tally) (log : List ℕ)
@@ -135,7 +175,8 @@ go-split (suc m) b t log =
 
     by : (front : Taken)
         → taken log ≡ front
-        → ((u : Tally) (l : List ℕ) → go (m + suc b) u l ≡ go (suc b) (go m u l .tally) (drop (go m u l .tally .offset - u .offset) l))
+        → ((u : Tally) (l : List ℕ)
+        → go (m + suc b) u l ≡ go (suc b) (go m u l .tally) (drop (go m u l .tally .offset - u .offset) l))
         → Rest (go (suc m) t log .tally)
     by (Stopped stop) e later =
         let end = ap (λ r. r .tally) (sym (go-stop t (suc m) (some m) log stop e)) in
@@ -215,10 +256,11 @@ run-again s log m b accepted =
     let short : length rest ≤ longestLog = simp length-drop (omega (arith, facts .0)) in
     let up = sym (run-sound (first .tally .state) rest (suc b) short state) in
     let whole = run-split s log m b accepted in
-    let alike = tallied-alike (fresh (first .tally .state)) (first .tally) (course (suc b) (first .tally .state) rest) refl in
-    let fresh-read = tallied-sum (λ t. t .read) (λ o. 1) counted-read (fresh (first .tally .state)) (course (suc b) (first .tally .state) rest) in
-    let read = tallied-sum (λ t. t .read) (λ o. 1) counted-read (first .tally) (course (suc b) (first .tally .state) rest) in (
-      ap (λ r. r .code) up ∙ ended-code (fresh (first .tally .state)) (course (suc b) (first .tally .state) rest),
+    let later = course (suc b) (first .tally .state) rest in
+    let alike = tallied-alike (fresh (first .tally .state)) (first .tally) later refl in
+    let fresh-read = tallied-sum (λ t. t .read) (λ o. 1) counted-read (fresh (first .tally .state)) later in
+    let read = tallied-sum (λ t. t .read) (λ o. 1) counted-read (first .tally) later in (
+      ap (λ r. r .code) up ∙ ended-code (fresh (first .tally .state)) later,
       ap (λ r. r .stop) up ∙ alike .0 ∙ sym (ap (λ r. r .stop) whole),
       ap (λ r. r .tally .state) up ∙ alike .1 ∙ sym (ap (λ r. r .tally .state) whole),
       omega (arith, ap (λ r. r .tally .read) up, ap (λ r. r .tally .read) whole, fresh-read, read),

@@ -1,5 +1,6 @@
 -- The counts of a run are those of its steps.
--- Proves: tallied-sum, is-go, run-read, run-refused, run-request, run-release, run-incompatible, run-initiate, run-terminate, run-established.
+-- Proves: tallied-sum, is-go, run-read, run-refused, run-request, run-release, run-incompatible, run-initiate, run-terminate,
+-- run-established.
 use mathlib.Core.Path.{_≡_, refl, sym, ap, _∙_}
 use mathlib.Core.Bool.{cond}
 use mathlib.Core.List.{List, [], _∷_}
@@ -12,10 +13,11 @@ use Rattle.wire.specs.Refusals as refusal
 use Rattle.wire.proofs.Tests.{cond-case, cond-holds}
 use Rattle.place.specs.Table.{request, release, incompatible, initiate, terminate, established}
 use Rattle.unit.specs.States.{sound}
-use Rattle.unit.specs.Steps.{Outcome, refused}
+use Rattle.unit.specs.Steps.{Outcome}
 use Rattle.unit.specs.declared.state.State.{State}
 use Rattle.record.specs.Takes.{longestLog}
-use Rattle.unit.specs.Runs.{Course, stops, applies, course, stepsOf, steps, totalOf, totalled, counted, fresh, tallied, go, runRefused, run, sumOf}
+use Rattle.unit.specs.Runs.{Course, stops, applies, course, stepsOf, steps}
+use Rattle.unit.specs.Runs.{totalOf, totalled, counted, fresh, tallied, go, runRefused, run, sumOf}
 use Rattle.unit.specs.declared.run.Tally.{Tally}
 
 -- a count that each record changes by what its step counts for is the sum over the steps
@@ -40,9 +42,12 @@ module _ (s : State) (log : List ℕ) (budget : ℕ) (taken : run s log budget .
   pub is-go : run s log budget ≡ go budget (fresh s) log
   unfolding run
   is-go =
-      cond-case (λ r. r .code ≡ refusal.accepted → r ≡ go budget (fresh s) log) (leb (length log) longestLog) (cond (sound s) (go budget (fresh s) log) (runRefused refusal.notSound s)) (runRefused refusal.logTooLong s)
+      let goes = go budget (fresh s) log in
+      let unsound = runRefused refusal.notSound s in
+      cond-case (λ r. r .code ≡ refusal.accepted → r ≡ goes) (leb (length log) longestLog) (cond (sound s) goes unsound)
+      (runRefused refusal.logTooLong s)
       (λ fits.
-      cond-holds (λ r. r .code ≡ refusal.accepted → r ≡ go budget (fresh s) log) (sound s) (go budget (fresh s) log) (runRefused refusal.notSound s)
+      cond-holds (λ r. r .code ≡ refusal.accepted → r ≡ goes) (sound s) goes unsound
       (λ h. refl)
       (λ h. absurd (omega arith)))
       (λ long h. absurd (omega arith))
@@ -57,7 +62,10 @@ module _ (s : State) (log : List ℕ) (budget : ℕ) (taken : run s log budget .
       → f (run s log budget .tally) ≡ sumOf w the-steps
   unfolding the-steps
   summed f w each none =
-      ap (λ r. f (r .tally)) is-go ∙ tallied-sum f w each (fresh s) (course budget s log) ∙ ap (λ x. x + sumOf w (steps budget s log)) none ∙ zero-add (sumOf w (steps budget s log))
+      ap (λ r. f (r .tally)) is-go
+      ∙ tallied-sum f w each (fresh s) (course budget s log)
+      ∙ ap (λ x. x + sumOf w (steps budget s log)) none
+      ∙ zero-add (sumOf w (steps budget s log))
 
   -- "Records read are the steps taken"
   -- promise

@@ -13,6 +13,7 @@ use Rattle.wire.specs.Refusals.{logTooLong}
 use Rattle.record.specs.Records.{known, lengthOf, reading}
 use Rattle.record.specs.Takes.{nothingLeft, budgetUsed, recordShort, kindUnknown, longestLog, takeOne, taken}
 use Rattle.record.specs.declared.event.Reading.{Reading}
+use Rattle.record.specs.declared.take.Taken.{Taken}
 use Rattle.record.specs.declared.take.Taken.the-variants.{Whole, Stopped, Refused}
 use Rattle.unit.specs.OnRecords.{actionRoom, onRecord}
 use Rattle.unit.specs.Runs.{course, counted, ended, tallied, go}
@@ -24,9 +25,12 @@ unfolding takeOne
 one-fits [] k r = λ e. absurd (let z : _≡_ {A = ℕ} 0 1 = cc in omega arith)
 one-fits (kind ∷ rest) k r = by (known kind) (leb (lengthOf kind) (length (kind ∷ rest))) refl
   where
+    whole : Taken
+    whole = Whole (lengthOf kind) (reading (take (lengthOf kind) (kind ∷ rest)))
+
     by : (a b : Bool)
         → leb (lengthOf kind) (length (kind ∷ rest)) ≡ b
-        → cond a (cond b (Whole (lengthOf kind) (reading (take (lengthOf kind) (kind ∷ rest)))) (Stopped recordShort)) (Stopped kindUnknown) ≡ Whole k r
+        → cond a (cond b whole (Stopped recordShort)) (Stopped kindUnknown) ≡ Whole k r
         → k ≤ length (kind ∷ rest)
     by true true fits e =
         let same : lengthOf kind ≡ k = cc in
@@ -59,12 +63,20 @@ module _ (t : Tally) where
   go-budget [] some = absurd (omega arith)
   go-budget (x ∷ rest) some = refl
 
-  pub go-stop : (budget : ℕ) → (budget ≡ 0 → ⊥) → (rest : List ℕ) (stop : ℕ) → taken rest ≡ Stopped stop → ended t stop ≡ go budget t rest
+  pub go-stop : (budget : ℕ)
+      → (budget ≡ 0 → ⊥)
+      → (rest : List ℕ) (stop : ℕ)
+      → taken rest ≡ Stopped stop
+      → ended t stop ≡ go budget t rest
   unfolding course tallied
   go-stop zero some rest stop e = absurd (some refl)
   go-stop (suc budget) some rest stop e = rw e refl
 
-  pub go-refused : (budget : ℕ) → (budget ≡ 0 → ⊥) → (rest : List ℕ) (r : ℕ) → taken rest ≡ Refused r → ended t r ≡ go budget t rest
+  pub go-refused : (budget : ℕ)
+      → (budget ≡ 0 → ⊥)
+      → (rest : List ℕ) (r : ℕ)
+      → taken rest ≡ Refused r
+      → ended t r ≡ go budget t rest
   unfolding course tallied
   go-refused zero some rest r e = absurd (some refl)
   go-refused (suc budget) some rest r e = rw e refl

@@ -96,7 +96,14 @@ below-more h below =
     let r₄ = below .initiate in
     let r₅ = below .terminate in
     let r₆ = below .established in
-    record { request = omega arith; release = omega arith; incompatible = omega arith; initiate = omega arith; terminate = omega arith; established = omega arith }
+    record {
+      request = omega arith;
+      release = omega arith;
+      incompatible = omega arith;
+      initiate = omega arith;
+      terminate = omega arith;
+      established = omega arith;
+    }
 
 at-most : (b : ℕ) (test : Bool) (x : ℕ) → x ≤ b → cond test (x + 1) x ≤ b + 1
 at-most b true x h = omega arith
@@ -172,7 +179,14 @@ bounded-fresh s =
     record {
       read = omega arith;
       refused = omega arith;
-      totals = record { request = omega arith; release = omega arith; incompatible = omega arith; initiate = omega arith; terminate = omega arith; established = omega arith };
+      totals = record {
+        request = omega arith;
+        release = omega arith;
+        incompatible = omega arith;
+        initiate = omega arith;
+        terminate = omega arith;
+        established = omega arith;
+      };
     }
 
 count-few : (number : ℕ) (acts : List Action) → totalOf number acts ≤ length acts
@@ -180,7 +194,9 @@ unfolding totalOf
 count-few number [] = omega arith
 count-few number (a ∷ acts) =
     let rest = count-few number acts in
-    cond-holds (λ c. c ≤ suc (length acts)) (eqb (a .number) number) (suc (totalOf number acts)) (totalOf number acts) (omega arith) (omega arith)
+    cond-holds (λ c. c ≤ suc (length acts)) (eqb (a .number) number) (suc (totalOf number acts)) (totalOf number acts)
+    (omega arith)
+    (omega arith)
 
 pub totalled-below : (b c : ℕ) (t : Totals) (acts : List Action) → length acts ≤ c → Below b t → Below (b + c) (totalled t acts)
 unfolding totalled

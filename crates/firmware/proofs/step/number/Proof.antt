@@ -5,7 +5,9 @@ use Rattle.firmware.proofs.step.number.Statement.{statement}
 use Rattle.firmware.proofs.step.number.Tie as tie
 
 returns : tie.Need-returns
-returns c = (count-own (c .args .count) (c .pre), count-fits (c .args .count) (c .pre))
+returns c =
+    let count = c .args .count in
+    (count-own count (c .pre), count-fits count (c .pre))
 
 pub number-spec : {M : Type 1} → statement M
 number-spec = tie.close (tie.spec (λ c. search needs) returns)

@@ -7,10 +7,33 @@ use Rattle.image.proofs.read.place_at.Statement.{statement}
 use Rattle.image.proofs.read.place_at.Tie as tie
 
 returns : tie.Need-returns
-returns c = c .free .ensures ∙ place-free (now (c .before .before .before .before .args .s)) (c .before .before .before .before .args .at) _ (c .before .before .byte-at .ensures) (c .before .if1 .taken)
+returns c =
+    let read = c .before .before in
+    let start = read .before .before in
+    c .free .ensures
+    ∙ place-free (now (start .args .s)) (start .args .at) _ (read .byte-at .ensures) (c .before .if1 .taken)
 
 returns-2 : tie.Need-returns-2
-returns-2 c = c .held .ensures ∙ place-held (now (c .before .before .before .before .before .before .before .before .before .before .before .before .args .s)) (c .before .before .before .before .before .before .before .before .before .before .before .before .args .at) _ _ _ _ _ _ _ _ _ (c .before .before .before .before .before .before .before .before .before .before .byte-at .ensures) (c .before .before .before .before .before .before .before .before .byte-at2 .ensures) (c .before .before .before .before .before .before .byte-at3 .ensures) (c .before .before .before .before .before .byte-at4 .ensures) (c .before .before .before .before .byte-at5 .ensures) (c .before .before .before .byte-at6 .ensures) (c .before .before .byte-at7 .ensures) (c .before .before .before .before .before .before .before .before .before .if1 .left) (c .before .before .before .before .before .before .before .direction-of .ensures) (c .before .phase-of .ensures)
+returns-2 c =
+    let low = c .before .before in
+    let middle = low .before in
+    let high = middle .before in
+    let kind = high .before in
+    let tries = kind .before in
+    let directed = tries .before in
+    let direction = directed .before in
+    let some = direction .before in
+    let phase = some .before in
+    let start = phase .before .before in
+    c .held .ensures
+    ∙ place-held (now (start .args .s)) (start .args .at) _ _ _ _ _ _ _ _ _ (phase .byte-at .ensures) (direction .byte-at2 .ensures)
+    (tries .byte-at3 .ensures) (kind .byte-at4 .ensures) (high .byte-at5 .ensures) (middle .byte-at6 .ensures)
+    (low .byte-at7 .ensures) (some .if1 .left) (directed .direction-of .ensures) (c .before .phase-of .ensures)
 
 pub place-at-spec : {M : Type 1} → statement M
-place-at-spec = tie.close (tie.spec (λ c κs. search needs) (λ c κs. search needs) returns (λ c. search needs) (λ c κs. search needs) (λ c κs. search needs) (λ c. search needs) (λ c κs. search needs) (λ c. search needs) (λ c κs. search needs) (λ c. search needs) (λ c κs. search needs) (λ c. search needs) (λ c κs. search needs) (λ c. search needs) (λ c κs. search needs) (λ c κs. search needs) (λ c κs. search needs) returns-2)
+place-at-spec =
+    tie.close
+    (tie.spec (λ c κs. search needs) (λ c κs. search needs) returns (λ c. search needs) (λ c κs. search needs)
+    (λ c κs. search needs) (λ c. search needs) (λ c κs. search needs) (λ c. search needs) (λ c κs. search needs)
+    (λ c. search needs) (λ c κs. search needs) (λ c. search needs) (λ c κs. search needs) (λ c. search needs)
+    (λ c κs. search needs) (λ c κs. search needs) (λ c κs. search needs) returns-2)

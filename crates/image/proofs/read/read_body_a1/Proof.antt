@@ -22,16 +22,18 @@ loop-holds c = (omega arith, refl)
 
 loop-again : tie.Need-loop-again Inv-loop μ-loop
 loop-again c =
-    let passed = c .before .before .loop in
-    let start = c .before .before .before .before in
+    let at = c .before .before in
+    let passed = at .loop in
+    let start = at .before .before in
     let body = now (start .args .body) in
     let stored = ap (λ l. set l (passed .i) (getD body (passed .i) 0)) (passed .inv .1) in
     (omega arith, stored ∙ copy-more body (start .pre) (passed .i) (omega arith))
 
 slice-aggregate-read-body : tie.Need-slice-aggregate-read-body Inv-loop μ-loop
 slice-aggregate-read-body c =
-    let passed = c .before .before .loop in
-    let start = c .before .before .before .before in
+    let at = c .before .before in
+    let passed = at .loop in
+    let start = at .before .before in
     sym
     (length-set (passed .whole) 36 fleetTries
     ∙ ap length (passed .inv .1)
@@ -39,8 +41,9 @@ slice-aggregate-read-body c =
 
 returns : tie.Need-returns Inv-loop μ-loop
 returns c =
-    let passed = c .before .before .before .loop in
-    let start = c .before .before .before .before .before in
+    let at = c .before .before .before in
+    let passed = at .loop in
+    let start = at .before .before in
     let body = now (start .args .body) in
     let all : passed .i ≡ 36 = omega arith in
     c .read-body .ensures

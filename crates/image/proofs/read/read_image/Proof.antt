@@ -20,9 +20,10 @@ returns-2 c =
 
 returns-3 : tie.Need-returns-3
 returns-3 c =
-    let bytes = now (c .before .before .before .before .before .before .args .bytes) in
-    c .refused2 .ensures
-    ∙ read-a1-wrong bytes (c .before .before .before .before .if1 .left) (c .before .before .if2 .left) (c .before .if3 .taken)
+    let old = c .before .before in
+    let some = old .before .before in
+    let bytes = now (some .before .before .args .bytes) in
+    c .refused2 .ensures ∙ read-a1-wrong bytes (some .if1 .left) (old .if2 .left) (c .before .if3 .taken)
 
 read-body-a1-requires : tie.Need-read-body-a1-requires
 read-body-a1-requires c κs =

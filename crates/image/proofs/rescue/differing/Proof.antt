@@ -25,8 +25,9 @@ loop-holds c = (omega arith, c .nothing .ensures)
 
 note-requires : tie.Need-note-requires Inv-loop μ-loop
 note-requires c κs =
-    let start = c .before .before .before .before .before in
-    let passed = c .before .loop in
+    let at = c .before in
+    let passed = at .loop in
+    let start = at .before .before .before .before in
     let counted = ap (λ (r : Rescued). r .count) (passed .inv .1) in
     let few = changed-few (now (start .args .old)) (now (start .args .new)) (take (passed .i) fields) in
     let shorter = length-take-le (passed .i) fields (passed .inv .0) in
@@ -45,8 +46,9 @@ loop-again c =
 
 returns : tie.Need-returns Inv-loop μ-loop
 returns c =
-    let start = c .before .before .before .before .before in
-    let passed = c .before .loop in
+    let at = c .before in
+    let passed = at .loop in
+    let start = at .before .before .before .before in
     let all : passed .i ≡ 11 = omega arith in
     passed .inv .1 ∙ ap (λ k. listing accepted (changed (take k fields) (now (start .args .old)) (now (start .args .new)))) all
 

@@ -10,12 +10,15 @@ use Rattle.image.proofs.rescue.is_absent.Tie as tie
 
 returns-2 : tie.Need-returns-2
 returns-2 c =
-    let start = c .before .before .before .before .before .before .before .before .before in
-    let held = c .before .before .before .before .before .before .before .holding .given in
-    let joined =
-    c .before .before .or .ensures ∙ (λ i. c .before .before .before .before .holds2 .ensures i || c .before .before .before .holds3 .ensures i) in
+    let third = c .before .before .before in
+    let second = third .before in
+    let first = second .before in
+    let told = first .before .before in
+    let start = told .before .before in
+    let held = told .holding .given in
+    let joined = c .before .before .or .ensures ∙ (λ i. second .holds2 .ensures i || third .holds3 .ensures i) in
     c .negated .ensures
-    ∙ ap not (c .before .or2 .ensures ∙ (λ i. c .before .before .before .before .before .holds .ensures i || joined i))
+    ∙ ap not (c .before .or2 .ensures ∙ (λ i. first .holds .ensures i || joined i))
     ∙ absent-three (start .args .a) (start .args .b) (start .args .c) (held .0 .0) (held .0 .1 .0) (held .0 .1 .1 .0)
     ∙ ap (absentFrom (start .args .a ∷ start .args .b ∷ start .args .c ∷ [])) (sym (held .1))
 

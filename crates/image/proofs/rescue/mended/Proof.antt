@@ -15,7 +15,8 @@ unfolding mended
 returns c =
     let start = c .before .before .before .before .before .before .before .before in
     let limits = c .before .before .before .before .before .before .limits-in .ensures in
-    let train = c .before .before .before .mend-train .ensures ∙ ap mendTrain (c .before .before .before .before .before .train-in .ensures) in
+    let train =
+    c .before .before .before .mend-train .ensures ∙ ap mendTrain (c .before .before .before .before .before .train-in .ensures) in
     let marks = c .before .before .mend-marks .ensures ∙ ap mendMarks (c .before .before .before .before .marks-in .ensures) in
     let places =
     c .before .mend-places .ensures

@@ -7,10 +7,14 @@ returns : tie.Need-returns
 returns c = sizeOf-mark (c .before .args .at) (c .if1 .taken)
 
 returns-2 : tie.Need-returns-2
-returns-2 c = sizeOf-place (c .before .before .args .at) (c .before .if1 .left) (c .if2 .taken)
+returns-2 c =
+    let past = c .before in
+    sizeOf-place (past .before .args .at) (past .if1 .left) (c .if2 .taken)
 
 returns-3 : tie.Need-returns-3
-returns-3 c = sizeOf-last (c .before .before .args .at) (c .before .if1 .left) (c .if2 .left)
+returns-3 c =
+    let past = c .before in
+    sizeOf-last (past .before .args .at) (past .if1 .left) (c .if2 .left)
 
 pub size-of-spec : {M : Type 1} → statement M
 size-of-spec = tie.close (tie.spec returns returns-2 returns-3)

@@ -7,59 +7,58 @@ use Rattle.image.proofs.Putting.{sound-small}
 use Rattle.image.proofs.write.put_head.Statement.{statement}
 use Rattle.image.proofs.write.put_head.Tie as tie
 
+-- before the stores
+module _ (c : tie.After-marks) where
+  abbrev start : tie.Start
+  start = c .before .before .before .before
+
 slice-write-s-2 : tie.Need-slice-write-s-2
-slice-write-s-2 c = simp length-set (omega (arith, c .before .before .before .before .pre .0))
+slice-write-s-2 c = simp length-set (omega (arith, start c .pre .0))
 
 slice-write-s-3 : tie.Need-slice-write-s-3
-slice-write-s-3 c = simp length-set (omega (arith, c .before .before .before .before .pre .0))
+slice-write-s-3 c = simp length-set (omega (arith, start c .pre .0))
 
 narrow-requires : tie.Need-narrow-requires
-narrow-requires c κs =
-    let start = c .before .before .before .before in
-    sound-small (start .args .state) (start .pre .1) .level
+narrow-requires c κs = sound-small (start c .args .state) (start c .pre .1) .level
 
 slice-write-s-4 : tie.Need-slice-write-s-4
-slice-write-s-4 c = simp length-set (omega (arith, c .before .before .before .before .before .pre .0))
+slice-write-s-4 c = simp length-set (omega (arith, start (c .before) .pre .0))
 
 narrow-requires-2 : tie.Need-narrow-requires-2
-narrow-requires-2 c κs =
-    let start = c .before .before .before .before .before in
-    sound-small (start .args .state) (start .pre .1) .mission
+narrow-requires-2 c κs = sound-small (start (c .before) .args .state) (start (c .before) .pre .1) .mission
 
 slice-write-s-5 : tie.Need-slice-write-s-5
-slice-write-s-5 c = simp length-set (omega (arith, c .before .before .before .before .before .before .pre .0))
+slice-write-s-5 c = simp length-set (omega (arith, start (c .before .before) .pre .0))
 
 slice-write-s-6 : tie.Need-slice-write-s-6
-slice-write-s-6 c =
-    let start = c .before .before .before .before .before .before .before in
-    simp length-set (omega (arith, start .pre .0))
+slice-write-s-6 c = simp length-set (omega (arith, start (c .before .before .before) .pre .0))
 
 slice-write-s-7 : tie.Need-slice-write-s-7
 slice-write-s-7 c =
-    let start = c .before .before .before .before .before .before .before .before in
-    simp length-set (omega (arith, start .pre .0))
+    let mission-put = c .before .before in
+    simp length-set (omega (arith, start (mission-put .before .before) .pre .0))
 
 slice-write-s-8 : tie.Need-slice-write-s-8
-slice-write-s-8 c =
-    let start = c .before .before .before .before .before .before .before .before .before in
-    simp length-set (omega (arith, start .pre .0))
+slice-write-s-8 c = simp length-set (omega (arith, start (c .before .before .before .before .before) .pre .0))
 
 slice-write-s-9 : tie.Need-slice-write-s-9
-slice-write-s-9 c =
-    let start = c .before .before .before .before .before .before .before .before .before .before in
-    simp length-set (omega (arith, start .pre .0))
+slice-write-s-9 c = simp length-set (omega (arith, start (c .before .before .before .before .before .before) .pre .0))
 
 returns : tie.Need-returns
 returns c =
-    let start = c .before .before .before .before .before .before .before .before .before .before in
-    let limits = start .args .state .limits in
-    let level = c .before .before .before .before .before .narrow .ensures in
-    let mission = c .before .before .before .before .narrow2 .ensures in
-    let inside = c .before .before .before .mark-byte .ensures in
-    let mode = c .before .before .mark-byte2 .ensures in
+    let mode-put = c .before .before in
+    let inside-put = mode-put .before in
+    let mission-put = inside-put .before in
+    let level-put = mission-put .before in
+    let args = start (level-put .before) .args in
+    let limits = args .state .limits in
+    let level = level-put .narrow .ensures in
+    let mission = mission-put .narrow2 .ensures in
+    let inside = inside-put .mark-byte .ensures in
+    let mode = mode-put .mark-byte2 .ensures in
     let manual = c .before .mark-byte3 .ensures in
     let end = c .mark-byte4 .ensures in
-    let front = set (set (set (now (start .args .s)) 0 (start .args .kind)) 1 (limits .lowest)) 2 (limits .highest) in
+    let front = set (set (set (now (args .s)) 0 (args .kind)) 1 (limits .lowest)) 2 (limits .highest) in
     λ i.
     let numbers = set (set front 3 (level i)) 4 (mission i) in
     set (set (set (set numbers 5 (inside i)) 6 (mode i)) 7 (manual i)) 8 (end i)

@@ -15,33 +15,42 @@ returns c =
 
 put-body-requires : tie.Need-put-body-requires
 put-body-requires c κs =
-    let tested = c .before .before .before .before .is-sound in
-    (c .before .before .before .before .before .if1 .left, sym (tested .ensures) ∙ c .before .before .before .if2 .taken)
+    let compared = c .before .before in
+    let sure = compared .before in
+    let tested = sure .before in
+    (tested .before .if1 .left, sym (tested .is-sound .ensures) ∙ sure .if2 .taken)
 
 returns-2 : tie.Need-returns-2
 unfolding imageA1
 returns-2 c =
-    let start = c .before .before .before .before .before .before .before .before .before .before in
-    let tested = c .before .before .before .before .before .before .before .is-sound in
-    let good = sym (tested .ensures) ∙ c .before .before .before .before .before .before .if2 .taken in
-    let fits = sym (c .before .before .before .before .before .fits-a1 .ensures) ∙ c .before .before .before .before .if3 .taken in
-    let room = c .before .before .before .before .before .before .before .before .if1 .left in
-    wrote-a1 (start .args .state) (now (start .args .buffer)) room _ good fits (c .before .before .put-body .ensures)
+    let old = c .before .before .before .before in
+    let sure = old .before .before in
+    let tested = sure .before in
+    let room = tested .before in
+    let start = room .before .before in
+    let good = sym (tested .is-sound .ensures) ∙ sure .if2 .taken in
+    let fits = sym (old .before .fits-a1 .ensures) ∙ old .if3 .taken in
+    wrote-a1 (start .args .state) (now (start .args .buffer)) (room .if1 .left) _ good fits (c .before .before .put-body .ensures)
 
 returns-3 : tie.Need-returns-3
 returns-3 c =
-    let start = c .before .before .before .before .before .before .before in
-    let good = sym (c .before .before .before .before .is-sound .ensures) ∙ c .before .before .before .if2 .taken in
-    let unfit = sym (c .before .before .fits-a1 .ensures) ∙ c .before .if3 .left in
-    let room = c .before .before .before .before .before .if1 .left in
-    let law = wrote-a1-unfit (start .args .state) (now (start .args .buffer)) room good unfit in
+    let compared = c .before .before in
+    let sure = compared .before in
+    let tested = sure .before in
+    let room = tested .before in
+    let start = room .before .before in
+    let good = sym (tested .is-sound .ensures) ∙ sure .if2 .taken in
+    let unfit = sym (compared .fits-a1 .ensures) ∙ c .before .if3 .left in
+    let law = wrote-a1-unfit (start .args .state) (now (start .args .buffer)) (room .if1 .left) good unfit in
     (c .refused2 .ensures ∙ law .0, law .1)
 
 returns-4 : tie.Need-returns-4
 returns-4 c =
-    let start = c .before .before .before .before .before in
-    let bad = sym (c .before .before .is-sound .ensures) ∙ c .before .if2 .left in
-    let law = wrote-a1-unsound (start .args .state) (now (start .args .buffer)) (c .before .before .before .if1 .left) bad in
+    let tested = c .before .before in
+    let room = tested .before in
+    let start = room .before .before in
+    let bad = sym (tested .is-sound .ensures) ∙ c .before .if2 .left in
+    let law = wrote-a1-unsound (start .args .state) (now (start .args .buffer)) (room .if1 .left) bad in
     (c .refused3 .ensures ∙ law .0, law .1)
 
 pub write-a1-spec : {M : Type 1} → statement M

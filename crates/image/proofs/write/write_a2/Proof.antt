@@ -13,20 +13,26 @@ returns c =
     (c .refused .ensures ∙ law .0, law .1)
 
 put-image-requires : tie.Need-put-image-requires
-put-image-requires c κs = (c .before .before .before .if1 .left, sym (c .before .before .is-sound .ensures) ∙ c .before .if2 .taken)
+put-image-requires c κs =
+    let tested = c .before .before in
+    (tested .before .if1 .left, sym (tested .is-sound .ensures) ∙ c .before .if2 .taken)
 
 returns-2 : tie.Need-returns-2
 returns-2 c =
-    let start = c .before .before .before .before .before .before .before .before in
-    let good = sym (c .before .before .before .before .before .is-sound .ensures) ∙ c .before .before .before .before .if2 .taken in
-    let room = c .before .before .before .before .before .before .if1 .left in
-    wrote-a2 (start .args .state) (now (start .args .buffer)) room _ good (c .before .before .put-image .ensures)
+    let sure = c .before .before .before .before in
+    let tested = sure .before in
+    let room = tested .before in
+    let start = room .before .before in
+    let good = sym (tested .is-sound .ensures) ∙ sure .if2 .taken in
+    wrote-a2 (start .args .state) (now (start .args .buffer)) (room .if1 .left) _ good (c .before .before .put-image .ensures)
 
 returns-3 : tie.Need-returns-3
 returns-3 c =
-    let start = c .before .before .before .before .before in
-    let bad = sym (c .before .before .is-sound .ensures) ∙ c .before .if2 .left in
-    let law = wrote-a2-unsound (start .args .state) (now (start .args .buffer)) (c .before .before .before .if1 .left) bad in
+    let tested = c .before .before in
+    let room = tested .before in
+    let start = room .before .before in
+    let bad = sym (tested .is-sound .ensures) ∙ c .before .if2 .left in
+    let law = wrote-a2-unsound (start .args .state) (now (start .args .buffer)) (room .if1 .left) bad in
     (c .refused2 .ensures ∙ law .0, law .1)
 
 pub write-a2-spec : {M : Type 1} → statement M

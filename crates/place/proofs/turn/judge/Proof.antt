@@ -8,13 +8,15 @@ use Rattle.place.proofs.turn.judge.Tie as tie
 
 returns : tie.Need-returns
 returns c =
-    let start = c .before .before .before .before in
-    judged-by (start .args .limits) (start .args .version) _ _ true refl (c .before .and .ensures) (c .if1 .taken)
+    let tested = c .before in
+    let start = tested .before .before .before in
+    judged-by (start .args .limits) (start .args .version) _ _ true refl (tested .and .ensures) (c .if1 .taken)
 
 returns-2 : tie.Need-returns-2
 returns-2 c =
-    let start = c .before .before .before .before in
-    judged-by (start .args .limits) (start .args .version) _ _ false refl (c .before .and .ensures) (c .if1 .left)
+    let tested = c .before in
+    let start = tested .before .before .before in
+    judged-by (start .args .limits) (start .args .version) _ _ false refl (tested .and .ensures) (c .if1 .left)
 
 pub judge-spec : {M : Type 1} → statement M
 judge-spec = tie.close (tie.spec (λ c κs. search needs) returns returns-2)

@@ -9,4 +9,6 @@ returns-5 : tie.Need-returns-5
 returns-5 c = sym (cause-first _ (c .match .rest .0 .0 .0 .1) (c .match .rest .0 .0 .1) (c .match .rest .0 .1) (c .match .rest .1))
 
 pub cause-of-spec : {M : Type 1} → statement M
-cause-of-spec = tie.close (tie.spec (λ c. search needs) (λ c. search needs) (λ c. search needs) (λ c. search needs) returns-5)
+cause-of-spec =
+    tie.close
+    (tie.spec (λ c. search needs) (λ c. search needs) (λ c. search needs) (λ c. search needs) returns-5)

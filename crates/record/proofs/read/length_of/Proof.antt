@@ -11,4 +11,6 @@ returns-2 : tie.Need-returns-2
 returns-2 c = sym (List·getD-eq-default lengths 0 {n = c .before .args .kind} (omega arith))
 
 pub length-of-spec : {M : Type 1} → statement M
-length-of-spec = tie.close (tie.spec (λ c κs. search needs) (λ c. search needs) (λ c κs. search needs) (λ c. cc) returns-2)
+length-of-spec =
+    tie.close
+    (tie.spec (λ c κs. search needs) (λ c. search needs) (λ c κs. search needs) (λ c. cc) returns-2)

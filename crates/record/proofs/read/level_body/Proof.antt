@@ -4,4 +4,7 @@ use Rattle.record.proofs.read.level_body.Statement.{statement}
 use Rattle.record.proofs.read.level_body.Tie as tie
 
 pub level-body-spec : {M : Type 1} → statement M
-level-body-spec = tie.close (tie.spec (λ c. search needs) (λ c. search needs) (λ c κs. search needs) (λ c κs. search needs) (λ c κs. search needs) (λ c. cc))
+level-body-spec =
+    tie.close
+    (tie.spec (λ c. search needs) (λ c. search needs) (λ c κs. search needs) (λ c κs. search needs)
+    (λ c κs. search needs) (λ c. cc))

@@ -14,4 +14,7 @@ returns-3 : tie.Need-returns-3
 returns-3 c = simp (ne-eqb _ _ (c .before .before .before .if2 .left), ne-eqb _ _ (c .before .before .before .before .if1 .left)) cc
 
 pub message-of-spec : {M : Type 1} → statement M
-message-of-spec = tie.close (tie.spec (λ c κs. search needs) (λ c κs. search needs) (λ c κs. search needs) returns (λ c κs. search needs) (λ c κs. search needs) returns-2 (λ c κs. search needs) (λ c κs. search needs) (λ c κs. search needs) returns-3)
+message-of-spec =
+    tie.close
+    (tie.spec (λ c κs. search needs) (λ c κs. search needs) (λ c κs. search needs) returns (λ c κs. search needs)
+    (λ c κs. search needs) returns-2 (λ c κs. search needs) (λ c κs. search needs) (λ c κs. search needs) returns-3)

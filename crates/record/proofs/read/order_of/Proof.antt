@@ -4,4 +4,7 @@ use Rattle.record.proofs.read.order_of.Statement.{statement}
 use Rattle.record.proofs.read.order_of.Tie as tie
 
 pub order-of-spec : {M : Type 1} → statement M
-order-of-spec = tie.close (tie.spec (λ c κs. search needs) (λ c κs. search needs) (λ c κs. search needs) (λ c κs. search needs) (λ c κs. search needs) (λ c. cc))
+order-of-spec =
+    tie.close
+    (tie.spec (λ c κs. search needs) (λ c κs. search needs) (λ c κs. search needs) (λ c κs. search needs)
+    (λ c κs. search needs) (λ c. cc))

@@ -19,4 +19,6 @@ returns c =
     (partner .ensures)
 
 pub partner-body-spec : {M : Type 1} → statement M
-partner-body-spec = tie.close (tie.spec (λ c κs. search needs) (λ c κs. search needs) (λ c κs. search needs) returns)
+partner-body-spec =
+    tie.close
+    (tie.spec (λ c κs. search needs) (λ c κs. search needs) (λ c κs. search needs) returns)

@@ -29,7 +29,8 @@ returns-5 c =
     let s = now (c .before .before .before .before .before .before .before .before .args .s) in
     let has = length-some _ (c .before .before .before .before .if2 .left) (c .before .before .before .if3 .left) in
     c .fields-of .ensures
-    ∙ read-fields s (c .before .before .before .before .before .before .if1 .left) _ (c .before .before .length-of .ensures) has (c .before .if4 .left)
+    ∙ read-fields s (c .before .before .before .before .before .before .if1 .left) _ (c .before .before .length-of .ensures) has
+    (c .before .if4 .left)
 
 pub read-spec : {M : Type 1} → statement M
 read-spec =

@@ -9,7 +9,8 @@ use Rattle.text.proofs.sheet.sheet_into.Tie as tie
 
 returns : tie.Need-returns
 returns c =
-    let start = c .before .before .before in
+    let lent = c .before in
+    let start = lent .before .before in
     sheet-none (now (start .args .input)) (now (start .args .buffer)) (c .if1 .taken)
 
 returns-2 : tie.Need-returns-2

@@ -18,21 +18,24 @@ put-one-requires c κs =
 
 put-one-requires-2 : tie.Need-put-one-requires-2
 put-one-requires-2 c κs =
-    let start = c .before .before .before .before .before in
-    let one = ap (λ t. length (numbers t)) (c .before .before .turn .given .1) in
+    let told = c .before .before in
+    let start = told .before .before .before in
+    let one = ap (λ t. length (numbers t)) (told .turn .given .1) in
     (omega (arith, start .pre .0, one), start .pre .1)
 
 put-one-requires-3 : tie.Need-put-one-requires-3
 put-one-requires-3 c κs =
-    let start = c .before .before .before .before .before in
-    let two = ap (λ t. length (numbers t)) (c .before .before .turn2 .given .1) in
+    let told = c .before .before in
+    let start = told .before .before .before in
+    let two = ap (λ t. length (numbers t)) (told .turn2 .given .1) in
     (omega (arith, start .pre .0, two), start .pre .1)
 
 put-one-requires-4 : tie.Need-put-one-requires-4
 put-one-requires-4 c κs =
-    let start = c .before .before .before .before .before .before .before .before .before in
     let wrote = c .before .before .before in
-    let two = ap (λ t. length (numbers t)) (c .before .before .before .before .before .before .turn2 .given .1) in
+    let told = wrote .before .before .before in
+    let start = told .before .before .before in
+    let two = ap (λ t. length (numbers t)) (told .turn2 .given .1) in
     (omega (arith, start .pre .0, two, wrote .put-one3 .ensures .0), omega (arith, start .pre .1, wrote .put-one3 .kept .0))
 
 returns : tie.Need-returns
@@ -49,20 +52,22 @@ returns-4 c = turn-appended _ _ _ _ _ _ _ (c .before .before .before .before .be
 
 returns-5 : tie.Need-returns-5
 returns-5 c =
-    let start = c .before .before .before .before .before .before .before .before .before .before .before .before in
-    let told = c .before .before .before .before .before .before .before .before .before in
-    let one = c .before .before .before .before .before .before .put-one3 .ensures in
+    let wrote = c .before .before .before .before .before .before in
+    let told = wrote .before .before .before in
+    let start = told .before .before .before in
+    let one = wrote .put-one3 .ensures in
     let two = c .before .before .put-one4 .ensures in
-    let first = told .turn2 .given .0 .0 in
-    let second = told .turn2 .given .0 .1 .0 in
+    let first = told .turn2 .given .0 .0 ∷ [] in
+    let second = told .turn2 .given .0 .1 .0 ∷ [] in
+    let args = start .args in
     turn-appended _ _ _ _ _ _ _ (told .turn2 .given .1) (
       omega (arith, one .0, two .0),
-      appended-numbers (now (start .args .s)) _ _ (start .args .count) _ (start .args .partner) (first ∷ []) (second ∷ []) (one .1) (one .0) (two .1),
+      appended-numbers (now (args .s)) _ _ (args .count) _ (args .partner) first second (one .1) (one .0) (two .1),
     )
 
 pub put-turn-spec : {M : Type 1} → statement M
 put-turn-spec =
     tie.close
-    (tie.spec (λ c. search needs) (λ c. search needs) put-one-requires (λ c. search needs) (λ c. search needs) put-one-requires-2
-    (λ c. search needs) put-one-requires-3 put-one-requires-4 returns (λ c. search needs) returns-2 returns-3 (λ c. search needs) returns-4
-    (λ c. search needs) returns-5)
+    (tie.spec (λ c. search needs) (λ c. search needs) put-one-requires (λ c. search needs) (λ c. search needs)
+    put-one-requires-2 (λ c. search needs) put-one-requires-3 put-one-requires-4 returns (λ c. search needs) returns-2
+    returns-3 (λ c. search needs) returns-4 (λ c. search needs) returns-5)

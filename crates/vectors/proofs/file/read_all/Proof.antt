@@ -10,4 +10,7 @@ abbrev μ-loop : tie.MeasureT-loop
 μ-loop fd tally₀ turns₀ tally turns = turns
 
 pub read-all-spec : {M : Type 1} → statement M
-read-all-spec = tie.close (tie.spec Inv-loop μ-loop (λ c κs. tt) (λ c. tt) (λ c κs. tt) (λ c. omega arith) (λ c. omega arith) (λ c. tt) (λ c. tt) (λ c. tt))
+read-all-spec =
+    tie.close
+    (tie.spec Inv-loop μ-loop (λ c κs. tt) (λ c. tt) (λ c κs. tt) (λ c. omega arith) (λ c. omega arith)
+    (λ c. tt) (λ c. tt) (λ c. tt))

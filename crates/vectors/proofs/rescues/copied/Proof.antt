@@ -24,5 +24,6 @@ loop-again c =
 pub copied-spec : {M : Type 1} → statement M
 copied-spec =
     tie.close
-    (tie.spec Inv-loop μ-loop (λ c κs. search needs) loop-holds (λ c κs. search needs) (λ c. omega (arith, c .before .before .loop .inv .1))
-    (λ c. omega arith) (λ c. omega arith) loop-again (λ c. c .before .loop .inv .1))
+    (tie.spec Inv-loop μ-loop (λ c κs. search needs) loop-holds (λ c κs. search needs)
+    (λ c. omega (arith, c .before .before .loop .inv .1)) (λ c. omega arith) (λ c. omega arith) loop-again
+    (λ c. c .before .loop .inv .1))

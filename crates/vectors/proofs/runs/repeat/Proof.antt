@@ -16,4 +16,7 @@ loop-again : tie.Need-loop-again Inv-loop μ-loop
 loop-again c = simp length-set (search needs)
 
 pub repeat-spec : {M : Type 1} → statement M
-repeat-spec = tie.close (tie.spec Inv-loop μ-loop (λ c. search needs) (λ c κs. search needs) (λ c κs. search needs) (λ c. search needs) (λ c. search needs) (λ c. search needs) loop-again (λ c. search needs) (λ c. search needs))
+repeat-spec =
+    tie.close
+    (tie.spec Inv-loop μ-loop (λ c. search needs) (λ c κs. search needs) (λ c κs. search needs)
+    (λ c. search needs) (λ c. search needs) (λ c. search needs) loop-again (λ c. search needs) (λ c. search needs))

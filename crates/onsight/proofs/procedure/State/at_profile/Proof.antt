@@ -1,8 +1,13 @@
 -- A profile is taken in Idle only.
 use borrow.Author.Needs.{needs}
-use mathlib.Core.Path.{refl}
+use mathlib.Core.Path.{_≡_, refl}
+use Rattle.onsight.specs.Procedures.{row, cell}
+use Rattle.onsight.specs.declared.event.Area.{Area}
+use Rattle.onsight.specs.declared.event.Mode.{Mode}
 use Rattle.onsight.specs.declared.event.Event.the-variants.{Profile}
-use Rattle.onsight.proofs.Known.{in-state, unopened}
+use Rattle.onsight.specs.declared.procedure.State.{State}
+use Rattle.onsight.specs.declared.procedure.Cell.the-variants.{No}
+use Rattle.onsight.proofs.Known.{NoProfile, in-state, unopened}
 use Rattle.onsight.proofs.procedure.State.at_profile.Statement.{statement}
 use Rattle.onsight.proofs.procedure.State.at_profile.Tie as tie
 
@@ -11,30 +16,34 @@ returns c =
     let start = c .before .before .before in
     in-state (Profile (start .args .area) (start .args .mode)) (c .before .enum-told .given .1) (c .opening .ensures)
 
+-- a state that is known, and takes no profile
+module _ (c : tie.Start) where
+  abbrev self : State
+  self = c .args .self
+
+  abbrev area : Area
+  area = c .args .area
+
+  abbrev mode : Mode
+  mode = c .args .mode
+
+  untaken : {known : State} → self ≡ known → NoProfile (row known) → No ≡ cell self (Profile area mode)
+  untaken = unopened area mode
+
 returns-2 : tie.Need-returns-2
-returns-2 c =
-    let start = c .before .before in
-    unopened (start .args .area) (start .args .mode) (c .enum-told2 .given .1) (refl, (refl, (refl, refl)))
+returns-2 c = untaken (c .before .before) (c .enum-told2 .given .1) (refl, (refl, (refl, refl)))
 
 returns-3 : tie.Need-returns-3
-returns-3 c =
-    let start = c .before .before in
-    unopened (start .args .area) (start .args .mode) (c .enum-told3 .given .1) (refl, (refl, (refl, refl)))
+returns-3 c = untaken (c .before .before) (c .enum-told3 .given .1) (refl, (refl, (refl, refl)))
 
 returns-4 : tie.Need-returns-4
-returns-4 c =
-    let start = c .before .before in
-    unopened (start .args .area) (start .args .mode) (c .enum-told4 .given .1) (refl, (refl, (refl, refl)))
+returns-4 c = untaken (c .before .before) (c .enum-told4 .given .1) (refl, (refl, (refl, refl)))
 
 returns-5 : tie.Need-returns-5
-returns-5 c =
-    let start = c .before .before in
-    unopened (start .args .area) (start .args .mode) (c .enum-told5 .given .1) (refl, (refl, (refl, refl)))
+returns-5 c = untaken (c .before .before) (c .enum-told5 .given .1) (refl, (refl, (refl, refl)))
 
 returns-6 : tie.Need-returns-6
-returns-6 c =
-    let start = c .before .before in
-    unopened (start .args .area) (start .args .mode) (c .enum-told6 .given .1) (refl, (refl, (refl, refl)))
+returns-6 c = untaken (c .before .before) (c .enum-told6 .given .1) (refl, (refl, (refl, refl)))
 
 pub at-profile-spec : {M : Type 1} → statement M
 at-profile-spec =

@@ -5,7 +5,10 @@ use Rattle.onsight.proofs.procedure.State.cell.Statement.{statement}
 use Rattle.onsight.proofs.procedure.State.cell.Tie as tie
 
 returns : tie.Need-returns
-returns c = told (c .before .before .before .before .args .self) (c .before .before .event .given .1) (c .at-profile .ensures)
+returns c =
+    let profile = c .before .before in
+    let start = profile .before .before in
+    told (start .args .self) (profile .event .given .1) (c .at-profile .ensures)
 
 pub cell-spec : {M : Type 1} → statement M
 cell-spec =

@@ -8,7 +8,8 @@ returns : tie.Need-returns
 returns c =
     let start = c .before .before .before .before in
     let used = c .before .before .before .tries in
-    again-more (start .args .limits) (start .args .number) (start .args .self) _ (used .ensures) _ (c .before .if1 .taken) (c .with-tries .ensures)
+    again-more (start .args .limits) (start .args .number) (start .args .self) _ (used .ensures) _ (c .before .if1 .taken)
+    (c .with-tries .ensures)
 
 returns-2 : tie.Need-returns-2
 returns-2 c =
@@ -16,4 +17,6 @@ returns-2 c =
     again-last (start .args .limits) (start .args .number) (start .args .self) _ (c .before .before .tries .ensures) (c .if1 .left)
 
 pub again-spec : {M : Type 1} → statement M
-again-spec = tie.close (tie.spec (λ c κs. search needs) (λ c. search needs) (λ c κs. search needs) returns returns-2)
+again-spec =
+    tie.close
+    (tie.spec (λ c κs. search needs) (λ c. search needs) (λ c κs. search needs) returns returns-2)

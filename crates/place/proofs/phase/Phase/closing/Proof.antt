@@ -9,4 +9,7 @@ returns-3 : tie.Need-returns-3
 returns-3 c = sym (ap closing (c .enum-told3 .given .1))
 
 pub closing-spec : {M : Type 1} → statement M
-closing-spec = tie.close (tie.spec (λ c. search needs) (λ c. search needs) (λ c. search needs) (λ c. search needs) (λ c. search needs) (λ c. search needs) (λ c. search needs) returns-3 (λ c. search needs) (λ c. search needs))
+closing-spec =
+    tie.close
+    (tie.spec (λ c. search needs) (λ c. search needs) (λ c. search needs) (λ c. search needs) (λ c. search needs)
+    (λ c. search needs) (λ c. search needs) returns-3 (λ c. search needs) (λ c. search needs))

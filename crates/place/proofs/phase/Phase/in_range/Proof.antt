@@ -14,10 +14,14 @@ returns c =
 
 returns-2 : tie.Need-returns-2
 returns-2 c =
-    let start = c .before .before .before .before in
+    let tested = c .before .before .before in
+    let start = tested .before in
+    let shut = sym (tested .is-open .ensures) ∙ c .before .before .if1 .left in
     c .tried .ensures
     ∙ ap (triesOk (start .args .limits)) (c .before .tries .ensures)
-    ∙ phaseOk-by (start .args .limits) (start .args .self) false (sym (c .before .before .before .is-open .ensures) ∙ c .before .before .if1 .left)
+    ∙ phaseOk-by (start .args .limits) (start .args .self) false shut
 
 pub in-range-spec : {M : Type 1} → statement M
-in-range-spec = tie.close (tie.spec (λ c κs. search needs) (λ c κs. search needs) (λ c κs. search needs) returns returns-2)
+in-range-spec =
+    tie.close
+    (tie.spec (λ c κs. search needs) (λ c κs. search needs) (λ c κs. search needs) returns returns-2)

@@ -1,12 +1,17 @@
 -- The records passed are told.
 use borrow.Author.Needs.{needs}
-use mathlib.Core.Path.{refl, sym, ap, _∙_}
+use mathlib.Core.Path.{_≡_, refl, sym, ap, _∙_}
 use mathlib.Core.Logic.{inl, inr}
-use Prim.Native.Nat.{_-_}
+use mathlib.Core.List.{List}
+use Prim.Native.Nat.{ℕ, _+_, _-_, _≤_}
 use native.Mathlib.Omega.{arith}
 use denote.Ref.{now}
-use lib.ListN.{length}
+use lib.ListN.{length, drop}
+use Rattle.record.specs.Takes.{takeOne}
+use Rattle.record.specs.declared.event.Reading.{Reading}
+use Rattle.record.specs.declared.take.Taken.the-variants.{Whole}
 use Rattle.record.proofs.Takes.{part-is}
+use Rattle.text.specs.declared.sheet.Page.{Page}
 use Rattle.text.proofs.Pages.{whole-part}
 use Rattle.text.proofs.Filling.{Filling, filling-end, end-keeps, filling-less, line-follows, filling-next}
 use Rattle.text.proofs.sheet.Page.fill.Statement.{statement}
@@ -23,111 +28,115 @@ loop-holds c =
     let start = c .before .before in
     (start .pre .0, start .pre .1, refl, refl, refl)
 
+-- what stands at the front of the input
+module _ (c : tie.After-take-one Inv-loop μ-loop) where
+  abbrev start : tie.Start Inv-loop μ-loop
+  start = c .before .before .before .before
+
+  abbrev input : List ℕ
+  input = now (start .args .input)
+
+  abbrev buffer : List ℕ
+  buffer = c .before .loop .buffer
+
+  abbrev page : Page
+  page = c .before .loop .page
+
+  so-far : Filling input (now (start .args .buffer)) (start .args .self) buffer page
+  so-far = c .before .loop .inv
+
 end-requires : tie.Need-end-requires Inv-loop μ-loop
-end-requires c κs = c .before .before .before .before .before .loop .inv .0
+end-requires c κs =
+    let told = c .before .before in
+    so-far (told .before .before) .0
 
 end-requires-2 : tie.Need-end-requires-2 Inv-loop μ-loop
-end-requires-2 c κs = c .before .before .before .before .before .loop .inv .0
+end-requires-2 c κs =
+    let told = c .before .before in
+    so-far (told .before .before) .0
+
+-- a whole record
+module _ (c : tie.After-length Inv-loop μ-loop) where
+  abbrev taken : tie.After-take-one Inv-loop μ-loop
+  taken = c .before .before
+
+  abbrev k : ℕ
+  k = c .length .given .0 .0
+
+  abbrev r : Reading
+  r = c .length .given .0 .1 .0
+
+  whole : takeOne (drop (page taken .at) (input taken)) ≡ Whole k r
+  whole = sym (taken .take-one .ensures) ∙ c .length .given .1
+
+  inside : page taken .at + k ≤ length (input taken)
+  inside = whole-part (page taken) (input taken) (start taken .pre .2) (so-far taken .0 .1) k r whole .1
 
 add-end : tie.Need-add-end Inv-loop μ-loop
 add-end c =
     let told = c .before in
-    let taken = told .before .before in
-    let so-far = taken .before .loop in
-    let start = taken .before .before .before .before in
-    let input = now (start .args .input) in
-    let whole = sym (taken .take-one .ensures) ∙ told .length .given .1 in
-    let part = whole-part (so-far .page) input (start .pre .2) (so-far .inv .0 .1) _ _ whole in
-    omega (arith, part .1, start .pre .2)
+    omega (arith, inside told, start (taken told) .pre .2)
 
 part-next-end : tie.Need-part-next-end Inv-loop μ-loop
-part-next-end c =
-    let told = c .before in
-    let taken = told .before .before in
-    let so-far = taken .before .loop in
-    let start = taken .before .before .before .before in
-    let input = now (start .args .input) in
-    let whole = sym (taken .take-one .ensures) ∙ told .length .given .1 in
-    let part = whole-part (so-far .page) input (start .pre .2) (so-far .inv .0 .1) _ _ whole in
-    part .1
+part-next-end c = inside (c .before)
 
 next-requires : tie.Need-next-requires Inv-loop μ-loop
 next-requires c κs =
     let told = c .before .before .before in
-    let taken = told .before .before in
-    let so-far = taken .before .loop in
-    let start = taken .before .before .before .before in
-    let input = now (start .args .input) in
-    let whole = sym (taken .take-one .ensures) ∙ told .length .given .1 in
-    line-follows input (start .pre .2) _ _ (so-far .buffer) (so-far .page) (so-far .inv) _ _ whole _
-    (part-is input (so-far .page .at) (told .length .given .0 .0))
+    let at = taken told in
+    line-follows (input at) (start at .pre .2) _ _ (buffer at) (page at) (so-far at) _ _ (whole told) _
+    (part-is (input at) (page at .at) (k told))
 
 loop-less : tie.Need-loop-less Inv-loop μ-loop
 loop-less c =
-    let told = c .before .before .before .before .before .before in
-    let taken = told .before .before in
-    let so-far = taken .before .loop in
-    let start = taken .before .before .before .before in
-    let input = now (start .args .input) in
-    let whole = sym (taken .take-one .ensures) ∙ told .length .given .1 in
-    filling-less input (start .pre .2) _ _ (so-far .buffer) (so-far .page) (so-far .inv) _ _ whole _
-    (part-is input (so-far .page .at) (told .length .given .0 .0)) _ (c .before .before .next .ensures .0)
+    let wrote = c .before .before in
+    let told = wrote .before .before .before .before in
+    let at = taken told in
+    filling-less (input at) (start at .pre .2) _ _ (buffer at) (page at) (so-far at) _ _ (whole told) _
+    (part-is (input at) (page at .at) (k told)) _ (wrote .next .ensures .0)
 
 loop-again : tie.Need-loop-again Inv-loop μ-loop
 loop-again c =
-    let told = c .before .before .before .before .before .before in
-    let taken = told .before .before in
-    let so-far = taken .before .loop in
-    let start = taken .before .before .before .before in
-    let input = now (start .args .input) in
-    let whole = sym (taken .take-one .ensures) ∙ told .length .given .1 in
-    let next = c .before .before .next .ensures in
-    filling-next input (start .pre .2) _ _ (so-far .buffer) (so-far .page) (so-far .inv) _ _ whole _
-    (part-is input (so-far .page .at) (told .length .given .0 .0)) _ _ (next .0) (next .1)
+    let wrote = c .before .before in
+    let told = wrote .before .before .before .before in
+    let at = taken told in
+    let next = wrote .next .ensures in
+    filling-next (input at) (start at .pre .2) _ _ (buffer at) (page at) (so-far at) _ _ (whole told) _
+    (part-is (input at) (page at .at) (k told)) _ _ (next .0) (next .1)
 
 same-length : tie.Need-same-length Inv-loop μ-loop
 same-length c =
     let ended = c .before .before in
     let told = ended .before .before .before in
-    let so-far = told .before .before .before .loop in
-    let start = told .before .before .before .before .before .before in
+    let at = told .before .before in
     ap length (ended .end .ensures .1)
-    ∙ end-keeps (now (start .args .input)) (start .pre .2) (now (start .args .buffer)) (start .args .self)
-    (so-far .buffer) (so-far .page) (so-far .inv) (told .stop .given .0 .0)
+    ∙ end-keeps (input at) (start at .pre .2) _ _ (buffer at) (page at) (so-far at) (told .stop .given .0 .0)
 
 returns : tie.Need-returns Inv-loop μ-loop
 returns c =
-    let told = c .before .before .before .before .before in
-    let taken = told .before .before in
-    let so-far = taken .before .loop in
-    let start = taken .before .before .before .before in
-    let input = now (start .args .input) in
-    let ended = inl (sym (taken .take-one .ensures) ∙ told .stop .given .1) in
-    let last = c .before .before .end .ensures in
-    let ends = filling-end input (start .pre .2) _ _ (so-far .buffer) (so-far .page) (so-far .inv) _ ended in
-    (last .0 ∙ ends .0, last .1 ∙ ends .1)
+    let ended = c .before .before in
+    let told = ended .before .before .before in
+    let at = told .before .before in
+    let stops = inl (sym (at .take-one .ensures) ∙ told .stop .given .1) in
+    let last = filling-end (input at) (start at .pre .2) _ _ (buffer at) (page at) (so-far at) _ stops in
+    (ended .end .ensures .0 ∙ last .0, ended .end .ensures .1 ∙ last .1)
 
 same-length-2 : tie.Need-same-length-2 Inv-loop μ-loop
 same-length-2 c =
     let ended = c .before .before in
     let told = ended .before .before .before in
-    let so-far = told .before .before .before .loop in
-    let start = told .before .before .before .before .before .before in
+    let at = told .before .before in
     ap length (ended .end2 .ensures .1)
-    ∙ end-keeps (now (start .args .input)) (start .pre .2) (now (start .args .buffer)) (start .args .self)
-    (so-far .buffer) (so-far .page) (so-far .inv) (told .code .given .0 .0)
+    ∙ end-keeps (input at) (start at .pre .2) _ _ (buffer at) (page at) (so-far at) (told .code .given .0 .0)
 
 returns-2 : tie.Need-returns-2 Inv-loop μ-loop
 returns-2 c =
-    let told = c .before .before .before .before .before in
-    let taken = told .before .before in
-    let so-far = taken .before .loop in
-    let start = taken .before .before .before .before in
-    let input = now (start .args .input) in
-    let ended = inr (sym (taken .take-one .ensures) ∙ told .code .given .1) in
-    let last = c .before .before .end2 .ensures in
-    let ends = filling-end input (start .pre .2) _ _ (so-far .buffer) (so-far .page) (so-far .inv) _ ended in
-    (last .0 ∙ ends .0, last .1 ∙ ends .1)
+    let ended = c .before .before in
+    let told = ended .before .before .before in
+    let at = told .before .before in
+    let stops = inr (sym (at .take-one .ensures) ∙ told .code .given .1) in
+    let last = filling-end (input at) (start at .pre .2) _ _ (buffer at) (page at) (so-far at) _ stops in
+    (ended .end2 .ensures .0 ∙ last .0, ended .end2 .ensures .1 ∙ last .1)
 
 pub fill-spec : {M : Type 1} → statement M
 fill-spec =

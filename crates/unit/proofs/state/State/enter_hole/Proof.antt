@@ -10,7 +10,10 @@ returns : tie.Need-returns
 returns c = c .refuse .ensures ∙ sym (hole-is (c .before .before .before .before .args .self) true false (ap not (c .before .if1 .taken)))
 
 returns-2 : tie.Need-returns-2
-returns-2 c = c .note .ensures ∙ sym (hole-is (c .before .before .before .before .args .self) true true (ap not (c .before .if1 .left)))
+returns-2 c =
+    let test = c .before in
+    let start = test .before .before .before in
+    c .note .ensures ∙ sym (hole-is (start .args .self) true true (ap not (test .if1 .left)))
 
 pub enter-hole-spec : {M : Type 1} → statement M
 enter-hole-spec = tie.close (tie.spec (λ c κs. search needs) returns (λ c κs. search needs) returns-2)

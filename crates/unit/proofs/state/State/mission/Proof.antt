@@ -8,10 +8,16 @@ use Rattle.unit.proofs.state.State.mission.Statement.{statement}
 use Rattle.unit.proofs.state.State.mission.Tie as tie
 
 returns : tie.Need-returns
-returns c = c .close-all .ensures ∙ sym (mission-is (c .before .before .before .before .args .self) (c .before .before .before .before .args .mission) true (eq-eqb _ _ (c .before .if1 .taken)))
+returns c =
+    let test = c .before in
+    let args = test .before .before .before .args in
+    c .close-all .ensures ∙ sym (mission-is (args .self) (args .mission) true (eq-eqb _ _ (test .if1 .taken)))
 
 returns-2 : tie.Need-returns-2
-returns-2 c = c .note .ensures ∙ sym (mission-is (c .before .before .before .before .args .self) (c .before .before .before .before .args .mission) false (ne-eqb _ _ (c .before .if1 .left)))
+returns-2 c =
+    let test = c .before in
+    let args = test .before .before .before .args in
+    c .note .ensures ∙ sym (mission-is (args .self) (args .mission) false (ne-eqb _ _ (test .if1 .left)))
 
 pub mission-spec : {M : Type 1} → statement M
 mission-spec = tie.close (tie.spec (λ c κs. search needs) (λ c κs. search needs) returns returns-2)

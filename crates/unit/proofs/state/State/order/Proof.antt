@@ -8,20 +8,23 @@ use Rattle.unit.proofs.state.State.order.Tie as tie
 
 returns : tie.Need-returns
 returns c =
-    let start = c .before .before .before .before .before .before in
     let tested = c .before .before .before in
+    let args = tested .before .before .before .args in
     let force = sym (tested .in-force .ensures) ∙ c .before .before .if1 .taken in
+    let whom = sym (c .before .meant .ensures) in
     c .order-to .ensures
-    ∙ sym (order-is (start .args .self) (start .args .partner) _ (start .args .accepting) (start .args .cause) true force (sym (c .before .meant .ensures)))
+    ∙ sym (order-is (args .self) (args .partner) _ (args .accepting) (args .cause) true force whom)
 
 returns-2 : tie.Need-returns-2
 returns-2 c =
-    let start = c .before .before .before .before .before in
     let tested = c .before .before in
+    let args = tested .before .before .before .args in
     let out = sym (tested .in-force .ensures) ∙ c .before .if1 .left in
     c .refuse .ensures
-    ∙ sym (order-is (start .args .self) (start .args .partner) _ (start .args .accepting) (start .args .cause) false out refl)
+    ∙ sym (order-is (args .self) (args .partner) _ (args .accepting) (args .cause) false out refl)
 
 pub order-spec : {M : Type 1} → statement M
 order-spec =
-    tie.close (tie.spec (λ c κs. search needs) (λ c κs. search needs) (λ c κs. search needs) (λ c κs. search needs) returns returns-2)
+    tie.close
+    (tie.spec (λ c κs. search needs) (λ c κs. search needs) (λ c κs. search needs) (λ c κs. search needs) returns
+    returns-2)

@@ -7,9 +7,9 @@ use Rattle.unit.proofs.state.State.refuse_at.Tie as tie
 
 returns : tie.Need-returns
 returns c =
-    let start = c .before .before in
+    let args = c .before .before .args in
     c .refuse-with .ensures
-    ∙ ap (λ k. refusedAt (start .args .code) (record { place = start .args .place; phase = k }) (start .args .self)) (c .before .number .ensures)
+    ∙ ap (λ k. refusedAt (args .code) (record { place = args .place; phase = k }) (args .self)) (c .before .number .ensures)
 
 pub refuse-at-spec : {M : Type 1} → statement M
 refuse-at-spec = tie.close (tie.spec (λ c κs. search needs) (λ c κs. search needs) returns)

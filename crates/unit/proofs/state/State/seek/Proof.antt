@@ -9,7 +9,9 @@ use Rattle.unit.proofs.state.State.seek.Statement.{statement}
 use Rattle.unit.proofs.state.State.seek.Tie as tie
 
 four : (c : tie.Start) → length (c .args .self .places) ≡ 4
-four c = sym (length-map (c .args .self .places) _) ∙ c .good .0 .1 .1 .1 .1 .1 .0 .1 .0 .1
+four c =
+    let self = c .args .self in
+    sym (length-map (self .places) _) ∙ c .good .0 .1 .1 .1 .1 .1 .0 .1 .0 .1
 
 returns : tie.Need-returns
 returns c =
@@ -19,10 +21,21 @@ returns c =
     (c .held-phase .ensures ∙ ap heldPhase (c .before .place-at .ensures))
 
 returns-2 : tie.Need-returns-2
-returns-2 c = seek-vacant (c .before .before .before .before .args .partner) (c .before .before .before .before .args .self .places) _ (c .before .before .before .place-from .ensures) (omega (arith, four (c .before .before .before .before))) _ (c .before .lowest-free .ensures) (omega (arith, four (c .before .before .before .before)))
+returns-2 c =
+    let free = c .before in
+    let held = free .before .before in
+    let start = held .before in
+    seek-vacant (start .args .partner) (start .args .self .places) _ (held .place-from .ensures) (omega (arith, four start)) _
+    (free .lowest-free .ensures) (omega (arith, four start))
 
 returns-3 : tie.Need-returns-3
-returns-3 c = seek-full (c .before .before .before .before .args .partner) (c .before .before .before .before .args .self .places) _ (c .before .before .before .place-from .ensures) (omega (arith, four (c .before .before .before .before))) _ (c .before .lowest-free .ensures) (omega (arith, four (c .before .before .before .before)))
+returns-3 c =
+    let free = c .before in
+    let held = free .before .before in
+    let start = held .before in
+    seek-full (start .args .partner) (start .args .self .places) _ (held .place-from .ensures) (omega (arith, four start)) _
+    (free .lowest-free .ensures) (omega (arith, four start))
 
 pub seek-spec : {M : Type 1} → statement M
-seek-spec = tie.close (tie.spec (λ c κs. search needs) (λ c κs. search needs) (λ c κs. search needs) returns (λ c κs. search needs) returns-2 returns-3)
+seek-spec = tie.close (tie.spec (λ c κs. search needs) (λ c κs. search needs) (λ c κs. search needs) returns
+    (λ c κs. search needs) returns-2 returns-3)

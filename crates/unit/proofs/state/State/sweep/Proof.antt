@@ -26,7 +26,9 @@ abbrev μ-loop : tie.MeasureT-loop
 μ-loop which places₀ totals₀ i₀ places totals i = 4 - i
 
 four : (c : tie.Start Inv-loop μ-loop) → length (c .args .self .places) ≡ 4
-four c = sym (length-map (c .args .self .places) _) ∙ c .good .0 .1 .1 .1 .1 .1 .0 .1 .0 .1
+four c =
+    let self = c .args .self in
+    sym (length-map (self .places) _) ∙ c .good .0 .1 .1 .1 .1 .1 .0 .1 .0 .1
 
 loop-holds : tie.Need-loop-holds Inv-loop μ-loop
 unfolding closed closingActions
@@ -35,9 +37,10 @@ loop-holds c = (omega arith, refl, sym (totalled-none _))
 below : (c : tie.At-loop Inv-loop μ-loop) → Below (mostTotal + mostActions) (c .loop .totals)
 below c =
     let start = c .before .before in
-    rw (c .loop .inv .2)
-    (below-more (omega (arith, c .loop .inv .0))
-    (totalled-below mostTotal (c .loop .i) (start .args .counted) _ (closings-most (start .args .which) (start .args .self .places) (c .loop .i)) (start .pre)))
+    let at = c .loop in
+    let most = closings-most (start .args .which) (start .args .self .places) (at .i) in
+    rw (at .inv .2)
+    (below-more (omega (arith, at .inv .0)) (totalled-below mostTotal (at .i) (start .args .counted) _ most (start .pre)))
 
 loop-again : tie.Need-loop-again Inv-loop μ-loop
 loop-again c =
@@ -60,19 +63,20 @@ loop-again c =
 
 returns : tie.Need-returns Inv-loop μ-loop
 returns c =
-    let start = c .before .before .before in
-    let end = c .before .loop in
+    let at = c .before in
+    let start = at .before .before in
+    let end = at .loop in
     let which = start .args .which in
     let ps = start .args .self .places in
     let above : length ps ≤ end .i = omega (arith, four start, c .loop-test .left) in (
       end .inv .1 ∙ closings-all which ps (end .i) above,
       end .inv .2 ∙ ap (totalled (start .args .counted)) (actions-all which ps (end .i) above),
-      below (c .before),
+      below at,
     )
 
 pub sweep-spec : {M : Type 1} → statement M
 sweep-spec =
     tie.close
     (tie.spec Inv-loop μ-loop loop-holds (λ c. search needs) (λ c. omega arith) (λ c κs. search needs)
-    (λ c κs. below (c .before .before .before)) (λ c κs. search needs) (λ c. search needs) (λ c. omega arith) (λ c. omega arith)
-    (λ c. omega arith) loop-again returns)
+    (λ c κs. below (c .before .before .before)) (λ c κs. search needs) (λ c. search needs) (λ c. omega arith)
+    (λ c. omega arith) (λ c. omega arith) loop-again returns)

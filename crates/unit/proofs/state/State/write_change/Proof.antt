@@ -38,5 +38,5 @@ returns-2 c =
 pub write-change-spec : {M : Type 1} → statement M
 write-change-spec =
     tie.close
-    (tie.spec (λ c κs. search needs) (λ c κs. c .before .before .before .before .pre .1) write-sent-requires (λ c. search needs) returns
-    write-sent-requires-2 (λ c. search needs) returns-2)
+    (tie.spec (λ c κs. search needs) (λ c κs. c .before .before .before .before .pre .1) write-sent-requires
+    (λ c. search needs) returns write-sent-requires-2 (λ c. search needs) returns-2)

@@ -28,7 +28,9 @@ abbrev μ-loop : tie.MeasureT-loop
 μ-loop self which s₀ places₀ count₀ i₀ s places count i = 4 - i
 
 four : (c : tie.Start Inv-loop μ-loop) → length (c .args .self .places) ≡ 4
-four c = sym (length-map (c .args .self .places) _) ∙ c .good .0 .1 .1 .1 .1 .1 .0 .1 .0 .1
+four c =
+    let self = c .args .self in
+    sym (length-map (self .places) _) ∙ c .good .0 .1 .1 .1 .1 .1 .0 .1 .0 .1
 
 more-length : (acts more : List Action) (p : Partner) (ks : List ℕ) (count next : ℕ)
     → next ≡ count + length ks
@@ -47,34 +49,35 @@ loop-holds c = (omega arith, refl, refl, refl, refl)
 
 put-turn-requires : tie.Need-put-turn-requires Inv-loop μ-loop
 put-turn-requires c κs =
-    let start = c .before .before .before .before .before .before .before .before in
     let turn = c .before .before .before .before .before in
-    let room =
-    closings-room (start .args .which) (start .args .self .places) _ (omega (arith, four start, c .before .before .before .before .loop-test .taken)) _
-    (turn .loop .inv .2) _ (c .before .before .closed-by .ensures) in (
-      omega (arith, room, turn .loop .inv .3, c .before .before .before .before .loop-test .taken),
+    let start = turn .before .before .before in
+    let below = c .before .before .before .before .loop-test .taken in
+    let ps = start .args .self .places in
+    let in-four : turn .loop .i < length ps = omega (arith, four start, below) in
+    let room = closings-room (start .args .which) ps _ in-four _ (turn .loop .inv .2) _ (c .before .before .closed-by .ensures) in (
+      omega (arith, room, turn .loop .inv .3, below),
       omega (arith, start .pre, turn .loop .inv .1),
     )
 
 loop-again : tie.Need-loop-again Inv-loop μ-loop
 loop-again c =
-    let start = c .before .before .before .before .before .before .before .before .before .before .before .before in
     let turn = c .before .before .before .before .before .before .before .before .before in
+    let start = turn .before .before .before in
     let wrote = c .before .before .before in
     let below = c .before .before .before .before .before .before .before .before .loop-test .taken in
-    let due = c .before .before .before .before .before .before .closed-by .ensures in
-    let partner = c .before .before .before .before .partner .ensures in
+    let due = c .before .before .before .before .before .before .closed-by in
+    let to = c .before .before .before .before .partner in
     let which = start .args .which in
     let ps = start .args .self .places in
     let in-four : turn .loop .i < length ps = omega (arith, four start, below) in
-    let sent = closings-next which ps (turn .loop .i) in-four _ (turn .loop .inv .2) _ _ partner due in (
+    let sent = closings-next which ps (turn .loop .i) in-four _ (turn .loop .inv .2) _ _ (to .ensures) (due .ensures) in
+    let acts = closingActions which (take (turn .loop .i) ps) in
+    let buffer = now (start .args .s) in (
       omega (arith, below),
       wrote .put-turn .kept .0 ∙ turn .loop .inv .1,
-      closings-places which ps _ in-four _ (turn .loop .inv .2) _ _ due (c .after .ensures),
-      more-length (closingActions which (take (turn .loop .i) ps)) _ (c .before .before .before .before .partner .result)
-          (numbers (c .before .before .before .before .before .before .closed-by .result)) _ _ (wrote .put-turn .ensures .0) (turn .loop .inv .3) sent,
-      wrote .put-turn .ensures .1 (closingActions which (take (turn .loop .i) ps)) (now (start .args .s)) (turn .loop .inv .3) (turn .loop .inv .4)
-          ∙ ap (λ l. written l (now (start .args .s))) sent,
+      closings-places which ps _ in-four _ (turn .loop .inv .2) _ _ (due .ensures) (c .after .ensures),
+      more-length acts _ (to .result) (numbers (due .result)) _ _ (wrote .put-turn .ensures .0) (turn .loop .inv .3) sent,
+      wrote .put-turn .ensures .1 acts buffer (turn .loop .inv .3) (turn .loop .inv .4) ∙ ap (λ l. written l buffer) sent,
     )
 
 returns : tie.Need-returns Inv-loop μ-loop
@@ -93,6 +96,6 @@ returns c =
 pub write-closings-spec : {M : Type 1} → statement M
 write-closings-spec =
     tie.close
-    (tie.spec Inv-loop μ-loop loop-holds (λ c. search needs) (λ c. omega arith) (λ c κs. search needs) (λ c κs. search needs)
-    put-turn-requires (λ c κs. search needs) (λ c. search needs) (λ c. omega arith) (λ c. omega arith) (λ c. omega arith) loop-again
-    (λ c. c .before .loop .inv .1) returns)
+    (tie.spec Inv-loop μ-loop loop-holds (λ c. search needs) (λ c. omega arith) (λ c κs. search needs)
+    (λ c κs. search needs) put-turn-requires (λ c κs. search needs) (λ c. search needs) (λ c. omega arith)
+    (λ c. omega arith) (λ c. omega arith) loop-again (λ c. c .before .loop .inv .1) returns)

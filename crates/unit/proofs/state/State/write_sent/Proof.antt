@@ -19,9 +19,9 @@ put-number-requires c κs =
 put-number-requires-2 : tie.Need-put-number-requires-2
 put-number-requires-2 c κs =
     let start = c .before .before .before .before .before .before .before in
-    let one = c .before .before .before in (
-      omega (arith, start .pre .0, sending-length (start .args .change), one .put-number .ensures .0),
-      omega (arith, start .pre .1, one .put-number .kept .0),
+    let one = c .before .before .before .put-number in (
+      omega (arith, start .pre .0, sending-length (start .args .change), one .ensures .0),
+      omega (arith, start .pre .1, one .kept .0),
     )
 
 returns : tie.Need-returns
@@ -29,8 +29,9 @@ returns c =
     let start = c .before .before .before .before .before .before .before .before .before .before .before .before in
     let change = start .args .change in
     let one = c .before .before .before .before .before .before .before .before .put-number .ensures in
-    let two = c .before .before .before .before .put-number2 .ensures in
-    let total : c .before .before .before .before .put-number2 .result ≡ start .args .count + length (sending change) =
+    let second = c .before .before .before .before .put-number2 in
+    let two = second .ensures in
+    let total : second .result ≡ start .args .count + length (sending change) =
     omega (arith, one .0, two .0, sending-length change) in (
       λ i.
           record { code = accepted; state = c .before .settle .ensures i; count = total i; standing = c .nowhere .ensures i },
@@ -41,4 +42,5 @@ returns c =
 pub write-sent-spec : {M : Type 1} → statement M
 write-sent-spec =
     tie.close
-    (tie.spec put-number-requires put-number-requires-2 (λ c κs. search needs) (λ c κs. search needs) (λ c. search needs) returns)
+    (tie.spec put-number-requires put-number-requires-2 (λ c κs. search needs) (λ c κs. search needs) (λ c. search needs)
+    returns)

@@ -1,39 +1,60 @@
 -- What the event changes is carried out or refused.
 use borrow.Author.Needs.{needs}
-use mathlib.Core.Path.{refl, sym, ap, _∙_}
+use mathlib.Core.Path.{_≡_, refl, sym, ap, _∙_}
 use native.Mathlib.Omega.{arith}
 use denote.Ref.{now}
-use lib.ListN.{length-map}
+use lib.ListN.{length, length-map}
+use Rattle.wire.specs.Refusals.{accepted}
+use Rattle.unit.specs.declared.change.Change.{Change}
+use Rattle.unit.specs.Steps.{step}
+use Rattle.unit.specs.Changes.{made}
 use Rattle.unit.specs.Forms.{stepped}
 use Rattle.unit.specs.OnRecords.{written}
 use Rattle.unit.proofs.Settling.{carried-refused, carried-made, made-few, written-refused}
 use Rattle.unit.proofs.state.State.write_step.Statement.{statement}
 use Rattle.unit.proofs.state.State.write_step.Tie as tie
 
+four : (c : tie.Start) → length (c .args .self .places) ≡ 4
+four c =
+    let self = c .args .self in
+    sym (length-map (self .places) _) ∙ c .good .0 .1 .1 .1 .1 .1 .0 .1 .0 .1
+
+-- what the event changes
+module _ (c : tie.After-change) where
+  abbrev start : tie.Start
+  start = c .before .before
+
+  abbrev change : Change
+  change = c .change .result
+
+  made-is : change .code ≡ accepted → made (start .args .self) change ≡ step (start .args .self) (start .args .event)
+  made-is done = sym (carried-made (start .args .self) change done) ∙ c .change .ensures
+
 write-change-requires : tie.Need-write-change-requires
 write-change-requires c κs =
-    let start = c .before .before .before .before .before in
-    let changed = c .before .before .before in
-    let self = start .args .self in
-    let four = sym (length-map (self .places) _) ∙ start .good .0 .1 .1 .1 .1 .1 .0 .1 .0 .1 in
-    let made = sym (carried-made self _ (c .before .if1 .taken)) ∙ changed .change .ensures in
-    (made-few self (changed .change .result) four (start .args .event) made, start .pre)
+    let test = c .before in
+    let changed = test .before .before in
+    let args = start changed .args in
+    let few = made-few (args .self) (change changed) (four (start changed)) (args .event) (made-is changed (test .if1 .taken)) in
+    (few, start changed .pre)
 
 returns : tie.Need-returns
 returns c =
-    let start = c .before .before .before .before .before .before .before .before in
-    let changed = c .before .before .before .before .before .before in
-    let made = sym (carried-made (start .args .self) _ (c .before .before .before .before .if1 .taken)) ∙ changed .change .ensures in
+    let test = c .before .before .before .before in
+    let changed = test .before .before in
+    let is = made-is changed (test .if1 .taken) in
     let wrote = c .before .before .write-change .ensures in
-    (wrote .0 ∙ ap stepped made, wrote .1 ∙ ap (λ o. written (o .actions) (now (start .args .s))) made)
+    (wrote .0 ∙ ap stepped is, wrote .1 ∙ ap (λ o. written (o .actions) (now (start changed .args .s))) is)
 
 returns-2 : tie.Need-returns-2
 returns-2 c =
-    let start = c .before .before .before .before .before in
-    let changed = c .before .before .before in
-    let numbered = carried-refused (start .args .self) (changed .change .result) (omega (arith, c .before .if1 .left)) in
-    written-refused _ _ _ _ _ (start .args .self) (now (start .args .s)) (c .refused .ensures) refl (sym (changed .change .ensures) ∙ numbered)
+    let test = c .before in
+    let changed = test .before .before in
+    let args = start changed .args in
+    let numbered = carried-refused (args .self) (change changed) (omega (arith, test .if1 .left)) in
+    written-refused _ _ _ _ _ (args .self) (now (args .s)) (c .refused .ensures) refl (sym (changed .change .ensures) ∙ numbered)
 
 pub write-step-spec : {M : Type 1} → statement M
 write-step-spec =
-    tie.close (tie.spec (λ c κs. search needs) write-change-requires (λ c κs. search needs) (λ c. search needs) returns returns-2)
+    tie.close
+    (tie.spec (λ c κs. search needs) write-change-requires (λ c κs. search needs) (λ c. search needs) returns returns-2)

@@ -11,4 +11,7 @@ abbrev μ-loop : tie.MeasureT-loop
 μ-loop log records turns₀ left₀ turns left = left
 
 pub through-spec : {M : Type 1} → statement M
-through-spec = tie.close (tie.spec Inv-loop μ-loop (λ c. tt) (λ c κs. search needs) (λ c. omega arith) (λ c. omega arith) (λ c. tt) (λ c. search needs) (λ c. search needs))
+through-spec =
+    tie.close
+    (tie.spec Inv-loop μ-loop (λ c. tt) (λ c κs. search needs) (λ c. omega arith) (λ c. omega arith) (λ c. tt)
+    (λ c. search needs) (λ c. search needs))
