@@ -3,13 +3,6 @@
  *   vectors list                     the number of vectors and bytes of each group
  *   vectors write FILE               all vectors
  *   vectors write-full FILE          the same, and an A1 image's bytes at all 256 values
- *   vectors write-small FILE SPOIL   a few of each group; SPOIL k > 0: one byte of an
- *                                    expectation of the k-th vector of the file is wrong;
- *                                    1000 + k: its place byte, 2000 + k: its phase byte,
- *                                    3000 + k: n of an expected state, 4000 + k: a byte of the
- *                                    last known RBC of an expected state (a mix has no n);
- *                                    5000 + k: a listed field of a rescue, 6000 + k: a byte of its
- *                                    image at exit
  *
  * A vector is the length of its body (2 bytes, big-endian) and the body: group, operation,
  * operands, expectations. A state is 41 bytes, those of an A2 image behind its kind; flag and
@@ -44,10 +37,6 @@
 
 enum { GROUPS = 13, BODY_MOST = 8000, STATE_BYTES = IMAGE_BYTES - 1, ANY = 255 };
 enum {
-    SPOIL_ONE, SPOIL_PLACE, SPOIL_PHASE, SPOIL_N, SPOIL_LAST, SPOIL_LISTED, SPOIL_EXIT,
-    SPOIL_PART = 1000
-};
-enum {
     OP_COLD = 1, OP_STEP, OP_STORE, OP_LOAD, OP_RUN, OP_LONG, OP_HISTORY, OP_MIX, OP_COLD_DEFAULT,
     OP_STORE_OLD, OP_LOAD_NEW, OP_RESCUE, OPS = OP_RESCUE
 };
@@ -55,14 +44,6 @@ enum {
 typedef struct {
     uint8_t group, op;
     uint32_t at, length;        /* the body, in 'bytes' */
-    uint32_t code_at;           /* in the body: an expected code */
-    uint32_t action_at;         /* an action's number or a byte of a total, 0: none */
-    uint32_t state_at;          /* a byte of an expected state that may be any, 0: none */
-    uint32_t place_at;          /* an expected place, the phase behind it, 0: none; of a refusal
-                                 * that tells where the partner stands, if there is one */
-    bool tells;                 /* it is of such a refusal */
-    uint32_t n_at, last_at;     /* n of an expected state, the flag of its last known RBC, 0: none */
-    uint32_t list_at, exit_at;  /* the first listed field of a rescue, a byte of its image, 0: none */
     uint64_t mixed;             /* a hash of the body */
 } Vector;
 
@@ -157,16 +138,6 @@ static void state(const State *s)
     raw(image + 1, STATE_BYTES);
 }
 
-static void code(unsigned v) { now.code_at = (uint32_t)n; u8(v); }
-
-static void state_expected(const State *s)
-{
-    now.state_at = (uint32_t)n + 2;        /* the level */
-    now.n_at = (uint32_t)n + 36;
-    now.last_at = (uint32_t)n + 37;
-    state(s);
-}
-
 static bool same(const State *a, const State *b) { return memcmp(a, b, sizeof *a) == 0; }
 
 static void compare(unsigned got, unsigned want)
@@ -227,10 +198,6 @@ static void answer(const State *before, const uint8_t *r, StepResult x)
         fail("place or phase");
     u8(x.code);
     u8(x.count);
-    if (now.place_at == 0 || (!now.tells && x.place < PLACES)) {
-        now.place_at = (uint32_t)n;
-        now.tells = x.place < PLACES;
-    }
     u8(x.place);
     u8(x.phase);
 }
@@ -259,8 +226,8 @@ static void cold_vector(int group, unsigned lowest, unsigned highest, unsigned t
     const uint8_t c = cold_start(&s, (uint8_t)lowest, (uint8_t)highest, (uint8_t)tries);
     compare(c, want);
     compare_cold(&s, c, lowest, highest, tries);
-    code(c);
-    state_expected(&s);
+    u8(c);
+    state(&s);
     end();
 }
 
@@ -273,8 +240,8 @@ static void cold_default_vector(int group, unsigned lowest, unsigned highest, un
     const uint8_t c = cold_start_default(&s, (uint8_t)lowest, (uint8_t)highest);
     compare(c, want);
     compare_cold(&s, c, lowest, highest, 5);
-    code(c);
-    state_expected(&s);
+    u8(c);
+    state(&s);
     end();
 }
 
@@ -302,11 +269,8 @@ static uint8_t step_in(int group, const State *s, const uint8_t *r, size_t lengt
             fail("a byte that is not an action's was written");
     if (x.code != 0 && (x.count != 0 || !same(s, &after)))
         fail("a refused step changed something");
-    now.code_at = (uint32_t)n;
     answer(s, r, x);
-    state_expected(&after);
-    if (x.count > 0)
-        now.action_at = (uint32_t)n;
+    state(&after);
     raw(actions, buffer);
     end();
     return x.count;
@@ -350,9 +314,9 @@ static void store_as(int group, const State *s, size_t buffer, unsigned fill, un
             fail("a byte that is not the image's was written");
     if (c == 0 && (image[0] != (old ? 0xA1 : 0xA2) || memcmp(image + 1, body + 2, length - 1) != 0))
         fail("an image that has not the state's bytes");
-    code(c);
+    u8(c);
     u8(c == 0 ? (unsigned)length : 0);
-    state_expected(s);
+    state(s);
     raw(image, buffer);
     end();
 }
@@ -460,8 +424,8 @@ static void load_as(int group, const uint8_t *image, size_t length, unsigned wan
     image_store(&s, got);
     if (memcmp(got + 1, plain, STATE_BYTES) != 0)
         fail("another state by the plain reading");
-    code(c);
-    state_expected(&s);
+    u8(c);
+    state(&s);
     end();
 }
 
@@ -528,10 +492,8 @@ static void rescue_vector(const uint8_t *image, size_t length, unsigned want, un
         fail("other fields by hand");
     if (memcmp(after, plain, sizeof after) != 0)
         fail("another image by the plain reading");
-    code(c);
+    u8(c);
     u8(found);
-    if (found > 0)
-        now.list_at = (uint32_t)n;
     unsigned k = 0;
     for (unsigned f = 0; f < RESCUE_MOST; f++) {
         const bool differs = memcmp(after + field_at[f], image + field_at[f], length == 42 ? field_bytes[f] : 0) != 0;
@@ -543,8 +505,6 @@ static void rescue_vector(const uint8_t *image, size_t length, unsigned want, un
     if (k != found)
         fail("a longer list than the plain reading's");
     raw(listed, found);
-    now.state_at = length > 3 ? (uint32_t)n + 3 : now.code_at;
-    now.exit_at = length > 3 ? (uint32_t)n + (found > 0 ? listed[0] : 3) : 0;
     raw(after, length);
     if (c == 0 && (!plainly_sound(after) || image_rescue(after, length, listed, &found) != 0 || found != 0 ||
                    memcmp(after, plain, sizeof after) != 0))
@@ -565,17 +525,14 @@ static void run_expected(const State *s, const uint8_t *log, size_t length, uint
         fail("the two runs differ");
     compare(x.code, want);
     compare(x.stop, stop);
-    code(x.code);
+    u8(x.code);
     u8(x.stop);
     u32(x.offset);
     u32(x.read);
     u32(x.refused);
-    for (int i = 0; i < 6; i++) {
+    for (int i = 0; i < 6; i++)
         u32(x.total[i]);
-        if (x.total[i] > 0)
-            now.action_at = (uint32_t)n - 1;
-    }
-    state_expected(&after);
+    state(&after);
 }
 
 static void run_vector(int group, const State *s, const uint8_t *log, size_t length,
@@ -619,7 +576,7 @@ static void history_begin(int group, unsigned lowest, unsigned highest, unsigned
 }
 
 /* One record of a history; gives its count of actions. */
-static unsigned history_step(State *s, const uint8_t *r, size_t length, bool early, unsigned want)
+static unsigned history_step(State *s, const uint8_t *r, size_t length, unsigned want)
 {
     uint8_t actions[ACTION_BUFFER];
     const State before = *s;
@@ -627,11 +584,7 @@ static unsigned history_step(State *s, const uint8_t *r, size_t length, bool ear
     compare(x.code, want);
     u8((unsigned)length);
     raw(r, length);
-    if (early)
-        now.code_at = (uint32_t)n;
     answer(&before, r, x);
-    if (x.count > 0 && now.action_at == 0)
-        now.action_at = (uint32_t)n;
     raw(actions, (size_t)ACTION_BYTES * x.count);
     return x.count;
 }
@@ -648,9 +601,9 @@ static void history_vector(int group, Rng *g, unsigned records)
     for (unsigned k = 0; k < records; k++) {
         const size_t length = gen_plain(g, &plain, false, r);
         plain_step(&plain, r, length);
-        history_step(&s, r, length, k <= records / 2, ANY);
+        history_step(&s, r, length, ANY);
     }
-    state_expected(&s);
+    state(&s);
     end();
 }
 
@@ -692,18 +645,12 @@ static void mix_in(int group, const uint8_t head[8], const uint8_t p0[7], const 
                 fail("a mix is not sound");
             const State before = s;
             const StepResult x = step(&s, r, length, actions, sizeof actions);
-            if (j <= 5)
-                now.code_at = (uint32_t)n;
             answer(&before, r, x);
-            if (x.count > 0 && j <= 5)
-                now.action_at = (uint32_t)n;
             raw(actions, (size_t)ACTION_BYTES * x.count);
             image_store(&s, after);
             if (memcmp(after + 1, image + 1, 2) != 0 || after[37] != tail[0])
                 fail("a step changed the X numbers or n");
             raw(after + 9, 28);
-            now.state_at = (uint32_t)n - 1;    /* at the end: the number of the Ending RIU in place 3 */
-            now.last_at = (uint32_t)n;
             raw(after + 38, 4);
         }
     end();
@@ -2481,12 +2428,12 @@ static void row_vector(int group, unsigned tries, const Row *w, unsigned actions
     l.n = l.records = 0;
     history_begin(group, 1, 2, tries, w->n, &s);
     for (unsigned i = 0; i < w->n; i++) {
-        sum += history_step(&s, w->r[i].b, w->r[i].n, i <= w->n / 2, ANY);
+        sum += history_step(&s, w->r[i].b, w->r[i].n, ANY);
         put(&l, w->r[i]);
     }
     if (sum != actions)
         fail("another number of actions by hand");
-    state_expected(&s);
+    state(&s);
     end();
     s = with_n(1, 2, tries);
     run_vector(group, &s, l.b, l.n, tries % 2 ? l.records : 0xFFFFFFFF, 0, 0);
@@ -3110,7 +3057,7 @@ static void last_histories(void)
         State s;
         history_begin(11, 1, 2, m, N, &s);
         for (unsigned i = 0; i < N; i++) {
-            history_step(&s, r[i].b, r[i].n, i <= N / 2, want[i].code);
+            history_step(&s, r[i].b, r[i].n, want[i].code);
             if (s.last != want[i].last)
                 fail("another last known RBC by hand");
         }
@@ -3119,7 +3066,7 @@ static void last_histories(void)
         after.last = KNOWN | A_1;
         if (!same(&s, &after))
             fail("another state by hand");
-        state_expected(&s);
+        state(&s);
         end();
     }
     /* random, with random n */
@@ -3132,9 +3079,9 @@ static void last_histories(void)
         history_begin(11, lowest, highest, gen_n(&g), records, &s);
         for (unsigned k = 0; k < records; k++) {
             const size_t length = gen_record_last(&g, &s, false, r);
-            history_step(&s, r, length, k <= records / 2, ANY);
+            history_step(&s, r, length, ANY);
         }
-        state_expected(&s);
+        state(&s);
         end();
     }
 }
@@ -3969,117 +3916,6 @@ static int put_file(const char *name, const uint8_t *b, size_t length)
     return 0;
 }
 
-static int small(const char *name, unsigned long spoil)
-{
-    const unsigned long byte = spoil / SPOIL_PART;
-    spoil %= SPOIL_PART;
-    static uint8_t out[60000];
-    static uint8_t take[sizeof vectors / sizeof vectors[0]];
-    size_t length = 0, chosen = 0;
-
-    for (int g = 1; g <= GROUPS; g++)
-        for (int o = 1; o <= OPS; o++) {
-            size_t all = 0, k = 0;
-            for (size_t i = 0; i < count; i++)
-                all += vectors[i].group == g && vectors[i].op == o;
-            const size_t some = o == OP_RESCUE ? 6 : g == 1 || o == OP_HISTORY || (g == 2 && o == OP_STEP) ? 4 :
-                                o == OP_STEP || o == OP_MIX ? 3 : 2;
-            for (size_t i = 0; i < count; i++)
-                if (vectors[i].group == g && vectors[i].op == o) {
-                    for (size_t j = 0; j < some; j++)        /* the middle of each part */
-                        if (k == (2 * j + 1) * all / (2 * some))
-                            take[i] = 1;
-                    k++;
-                }
-        }
-    for (size_t i = 0; i < count; i++) {
-        const Vector *const v = &vectors[i];
-        if (!take[i])
-            continue;
-        if (length + 2 + v->length > sizeof out) {
-            fputs("the small file is too large\n", stderr);
-            return 1;
-        }
-        memcpy(out + length, bytes + v->at - 2, v->length + 2);
-        chosen++;
-        if (chosen == spoil && (byte == SPOIL_PLACE || byte == SPOIL_PHASE)) {
-            const uint32_t at = v->place_at + (byte == SPOIL_PHASE);
-            uint8_t *const b = out + length + 2 + at;
-            const uint8_t old = *b;
-            if (v->place_at == 0) {
-                fprintf(stderr, "vector %zu (group %u, op %u) expects no place\n", chosen, v->group, v->op);
-                return 1;
-            }
-            *b = byte == SPOIL_PLACE ? (old == PLACES ? 0 : old ^ 1) : old % ENDING + 1;
-            printf("spoiled vector %zu (group %u, op %u): body byte %u, %s with code %u, %u instead of %u\n",
-                   chosen, v->group, v->op, at, byte == SPOIL_PLACE ? "place" : "phase",
-                   b[byte == SPOIL_PLACE ? -2 : -3], *b, old);
-        } else if (chosen == spoil && byte == SPOIL_LISTED) {
-            /* a listed field becomes one that is not, so that the list is ascending still */
-            uint8_t *const list = out + length + 2 + v->list_at;
-            const unsigned listed = v->list_at ? list[-1] : 0;
-            unsigned i, f = RESCUE_MOST;
-            for (i = 0; i < listed && f == RESCUE_MOST; i += f == RESCUE_MOST)
-                for (f = 0; f < RESCUE_MOST; f++)
-                    if (field_at[f] != list[i] && (i == 0 || field_at[f] > list[i - 1]) &&
-                        (i + 1 == listed || field_at[f] < list[i + 1]))
-                        break;
-            if (i == listed) {
-                fprintf(stderr, "vector %zu (group %u, op %u) lists none, or all\n", chosen, v->group, v->op);
-                return 1;
-            }
-            printf("spoiled vector %zu (group %u, op %u): body byte %u, listed field, %u instead of %u\n", chosen, v->group,
-                   v->op, v->list_at + i, field_at[f], list[i]);
-            list[i] = field_at[f];
-        } else if (chosen == spoil && byte == SPOIL_EXIT) {
-            uint8_t *const b = out + length + 2 + v->exit_at;
-            if (v->exit_at == 0) {
-                fprintf(stderr, "vector %zu (group %u, op %u) expects no image\n", chosen, v->group, v->op);
-                return 1;
-            }
-            *b ^= 1;
-            printf("spoiled vector %zu (group %u, op %u): body byte %u, image at exit, %u instead of %u\n", chosen, v->group,
-                   v->op, v->exit_at, *b, *b ^ 1);
-        } else if (chosen == spoil && byte >= SPOIL_N) {
-            /* a known RBC has another number, one that is not known becomes RBC 0 */
-            uint32_t at = byte == SPOIL_N ? v->n_at : v->last_at;
-            if (at == 0 || byte > SPOIL_LAST) {
-                fprintf(stderr, "vector %zu (group %u, op %u) expects no such byte\n", chosen, v->group, v->op);
-                return 1;
-            }
-            if (byte == SPOIL_LAST && out[length + 2 + at] == 1)
-                at += 1 + (uint32_t)chosen % 3;
-            uint8_t *const b = out + length + 2 + at;
-            const uint8_t old = *b;
-            *b = byte == SPOIL_N ? old % TRIES_MOST + 1 : old ^ 1;
-            printf("spoiled vector %zu (group %u, op %u): body byte %u, %s, %u instead of %u\n", chosen, v->group,
-                   v->op, at, byte == SPOIL_N ? "n of the expected state" : "last known RBC of the expected state", *b, old);
-        } else if (chosen == spoil) {
-            const char *what = "expected code";
-            uint32_t at = v->code_at;
-            if (spoil % 3 == 1 && v->action_at) {
-                what = v->op == OP_RUN || v->op == OP_LONG ? "total" : "action number";
-                at = v->action_at;
-            } else if (spoil % 3 == 2) {
-                what = v->op == OP_MIX ? "partner number in the last state" : "level of the expected state";
-                at = v->state_at;
-            }
-            uint8_t *const b = out + length + 2 + at;
-            const uint8_t old = *b;
-            *b = at == v->code_at ? (old ? 0 : 7) : old ^ 1;
-            printf("spoiled vector %zu (group %u, op %u): body byte %u, %s, %u instead of %u\n",
-                   chosen, v->group, v->op, at, what, *b, old);
-        }
-        length += 2 + v->length;
-    }
-    if (spoil > chosen) {
-        fprintf(stderr, "only %zu vectors\n", chosen);
-        return 1;
-    }
-    printf("%zu vectors, %zu bytes\n", chosen, length);
-    return put_file(name, out, length);
-}
-
 int main(int argc, char **argv)
 {
     if (argc == 2 && strcmp(argv[1], "list") == 0) {
@@ -4092,14 +3928,6 @@ int main(int argc, char **argv)
         make_all();
         return put_file(argv[2], bytes, used);
     }
-    if (argc == 4 && strcmp(argv[1], "write-small") == 0) {
-        char *rest;
-        const unsigned long spoil = strtoul(argv[3], &rest, 10);
-        if (argv[3][0] != '\0' && *rest == '\0') {
-            make_all();
-            return small(argv[2], spoil);
-        }
-    }
-    fputs("usage: vectors list | write FILE | write-full FILE | write-small FILE SPOIL\n", stderr);
+    fputs("usage: vectors list | write FILE | write-full FILE\n", stderr);
     return 2;
 }

@@ -25,7 +25,7 @@ use Rattle.image.specs.Images.{imageA2}
 use Rattle.image.proofs.RoundTrips.{readA2-written}
 use Rattle.history.specs.Histories.{endOf, after, sumOver, summed}
 use Rattle.firmware.specs.Calls.{onImage, returned, imageAfter, Seen, seenAfter}
-use Rattle.firmware.specs.Along.{Lent, recordsOf, roomy, seenAlong, lastImage, isAccepted, countOf, overSeen}
+use Rattle.firmware.specs.Along.{Lent, lentRecords, roomy, seenAlong, lastImage, isAccepted, countOf, overSeen}
 use Rattle.firmware.proofs.Calling.{onImage-no-room, onImage-steps, onImage-none, onImage-few}
 
 -- any room of 20 bytes and more is as good as 20
@@ -110,7 +110,7 @@ pub map-follows : {A : Type 0} (f : Seen → A) (g : Outcome → A)
     → (s : State) (history : List Lent)
     → sound s ≡ true
     → roomy history ≡ true
-    → map f (seenAlong (imageA2 s) history) ≡ map g (trace s (recordsOf history))
+    → map f (seenAlong (imageA2 s) history) ≡ map g (trace s (lentRecords history))
 unfolding seenAlong trace
 map-follows f g each s [] good enough = refl
 map-follows f g each s (x ∷ rest) good enough =
@@ -127,11 +127,11 @@ pub over-follows : (f : List ℕ → Seen → ℕ) (g : State → List ℕ → O
     → (s : State) (history : List Lent)
     → sound s ≡ true
     → roomy history ≡ true
-    → overSeen f (recordsOf history) (seenAlong (imageA2 s) history) ≡ summed g s (recordsOf history)
+    → overSeen f (lentRecords history) (seenAlong (imageA2 s) history) ≡ summed g s (lentRecords history)
 unfolding seenAlong trace overSeen summed sumOver
 over-follows f g each s [] good enough = refl
 over-follows f g each s (x ∷ rest) good enough =
-    ap (overSeen f (recordsOf (x ∷ rest))) (next-calls s x rest good enough)
+    ap (overSeen f (lentRecords (x ∷ rest))) (next-calls s x rest good enough)
     ∙ ap₂ _+_ (each s (x .bytes) (x .actions) good (roomy-first x rest enough))
     (over-follows f g each (onRecord s (x .bytes) actionRoom .state) rest (onRecord-sound s (x .bytes) actionRoom good)
     (roomy-rest x rest enough))
@@ -139,7 +139,7 @@ over-follows f g each s (x ∷ rest) good enough =
 pub image-after : (s : State) (history : List Lent)
     → sound s ≡ true
     → roomy history ≡ true
-    → lastImage (imageA2 s) (seenAlong (imageA2 s) history) ≡ imageA2 (after s (recordsOf history))
+    → lastImage (imageA2 s) (seenAlong (imageA2 s) history) ≡ imageA2 (after s (lentRecords history))
 unfolding seenAlong trace lastImage after endOf
 image-after s [] good enough = refl
 image-after s (x ∷ rest) good enough =

@@ -1,6 +1,6 @@
 -- Request Q-14: "Demands 2 and 3 are read through the images": a history of calls, and what is counted of what C sees.
--- Defines: Lent, recordsOf, roomy, seenAlong, lastImage, isAccepted, countOf, overSeen, actionsSeen, ordersSeen, callsSeen,
--- lossesSeen, actionsPassing, releasesSeen, releasesToSeen, placesPassing, placesSeen, heldSeen, holdsSeen, waitsSeen.
+-- Defines: Lent, lentRecords, roomy, seenAlong, lastImage, isAccepted, countOf, overSeen, actionsSeen, ordersSeen, callsSeen,
+-- lossesSeen, actionsPassing, releasesSeen, releasesToSeen, placesPassing, placesSeen, heldSeen, holdsSeen, waitsSeen, lentWith.
 use Prim.Native.Nat.{ℕ, zero, suc, _+_}
 use mathlib.Core.Bool.{Bool, true, false, _&&_, not}
 use mathlib.Core.List.{List, [], _∷_, map}
@@ -25,8 +25,8 @@ pub record Lent : Type 0 where
   pub actions : List ℕ
 
 -- the records of a history of calls
-abbrev pub recordsOf : List Lent → List (List ℕ)
-recordsOf = map (λ x. x .bytes)
+abbrev pub lentRecords : List Lent → List (List ℕ)
+lentRecords = map (λ x. x .bytes)
 
 -- each buffer has room for a step's actions, "each given 20 bytes for its actions" and more
 unfoldable pub roomy : List Lent → Bool
@@ -109,3 +109,7 @@ holdsSeen p = placesSeen (λ phase q. not (eqb phase 0) && samePartner p q)
 
 abbrev pub waitsSeen : Partner → List ℕ → ℕ
 waitsSeen p = placesSeen (λ phase q. (not (eqb phase 0) && not (eqb phase (phaseNumber Open))) && samePartner p q)
+
+-- these records, each lent with a copy of one buffer
+abbrev pub lentWith : List ℕ → List (List ℕ) → List Lent
+lentWith buffer = map (λ bytes. record { bytes = bytes; actions = buffer })

@@ -1,3 +1,4 @@
 pub mod Calls
 pub mod Starts
 pub mod Along
+pub mod Shown

@@ -1,4 +1,6 @@
 -- Request Q-11: events of different partners give the same state in either order, and each its own same answer.
+-- The laws of a row are for one event of each partner, in any order. They are a case of those in Interleaved.antt, where each partner has
+-- a row of its own and the rows are mixed; InterleavedMeans.antt says so.
 -- Proves: either-answers, either-alike, both-last, either-same, later-sets, later-leaves, row-answers, row-alike, row-same.
 use mathlib.Core.Path.{_≡_, refl, sym, ap, ap₂, subst, _∙_}
 use mathlib.Core.Bool.{Bool, true, false, _&&_}
@@ -25,7 +27,7 @@ use Rattle.history.specs.Histories.{endOf, after}
 use Rattle.history.specs.EitherOrder.{Delivered, recordsOf, Differ, DifferAll, Different, versions, Compared}
 use Rattle.history.specs.EitherOrder.{answerOf, next, alone, Alike, Permuted, empty, keeps, swaps, joins}
 
-next-sound : (s : State) → sound s ≡ true → (x : Delivered) → sound (next s x) ≡ true
+pub next-sound : (s : State) → sound s ≡ true → (x : Delivered) → sound (next s x) ≡ true
 next-sound s ok x = onRecord-sound s (x .bytes) actionRoom ok
 
 -- what the record reads as
@@ -33,7 +35,7 @@ abbrev eventOf : Delivered → Event
 eventOf x = Named (x .partner) (x .event)
 
 -- the step on the record is the step on its event
-stepped : (s : State)
+pub stepped : (s : State)
     → sound s ≡ true
     → (x : Delivered)
     → onRecord s (x .bytes) actionRoom ≡ step s (eventOf x)
@@ -102,7 +104,7 @@ not-both true false k few = refl
 not-both false b k few = refl
 
 -- states that are alike, with the same last known RBC, are the same
-same-state : (s t : State) → Alike s t → s .last ≡ t .last → s ≡ t
+pub same-state : (s t : State) → Alike s t → s .last ≡ t .last → s ≡ t
 same-state s t alike last =
     λ i. record { limits = alike .0 i; train = alike .1 i; marks = alike .2 i; places = alike .3 i; last = last i }
 
@@ -174,7 +176,7 @@ row-answers s ok (x ∷ xs) different =
     ap (_∷_ (alone s x)) (row-answers (next s x) (next-sound s ok x) xs (different .1) ∙ alone-after s ok x xs (different .0))
 
 -- states that are alike stay so through a row: no such record looks at the last known RBC
-alike-next : (s t : State)
+pub alike-next : (s t : State)
     → sound s ≡ true
     → sound t ≡ true
     → Alike s t
@@ -196,7 +198,7 @@ alike-next s t ok fine alike x =
           ∙ sym (ap (λ u. u .places) there ∙ follows .there),
     )
 
-alike-after : (s t : State)
+pub alike-after : (s t : State)
     → sound s ≡ true
     → sound t ≡ true
     → Alike s t
@@ -215,7 +217,7 @@ differs-permuted x (keeps y p) other = (other .0, differs-permuted x p (other .1
 differs-permuted x (swaps y z ys) other = (other .1 .0, (other .0, other .1 .1))
 differs-permuted x (joins p q) other = differs-permuted x q (differs-permuted x p other)
 
-different-permuted : {xs ys : List Delivered} → Permuted xs ys → Different xs → Different ys
+pub different-permuted : {xs ys : List Delivered} → Permuted xs ys → Different xs → Different ys
 unfolding Different DifferAll
 different-permuted empty different = tt
 different-permuted (keeps x p) different = (differs-permuted x p (different .0), different-permuted p (different .1))
@@ -230,7 +232,7 @@ versions-permuted (keeps x p) = ap (_+_ (once (isVersion (x .event)))) (versions
 versions-permuted (swaps x y xs) = omega arith
 versions-permuted (joins p q) = versions-permuted q ∙ versions-permuted p
 
-alike-same : (s t u : State) → Alike s t → Alike t u → Alike s u
+pub alike-same : (s t u : State) → Alike s t → Alike t u → Alike s u
 alike-same s t u a b = (a .0 ∙ b .0, a .1 ∙ b .1, a .2 ∙ b .2, a .3 ∙ b .3)
 
 -- any order of a row gives the same state, the last known RBC left out

@@ -1,5 +1,7 @@
 pub mod Accounts
 pub mod Bytes
+pub mod Naming
+pub mod Meanings
 pub mod Counted
 pub mod Along
 pub mod Falling
@@ -15,5 +17,15 @@ pub mod Leads
 pub mod Sessions
 pub mod Reached
 pub mod LastKnown
+pub mod Stepping
+pub mod AmongOthers
+pub mod Waited
+pub mod BetweenWords
 pub mod EitherOrder
 pub mod OrderMatters
+pub mod Interleaved
+pub mod EitherMeans
+pub mod InterleavedMeans
+pub mod Deliveries
+pub mod UnitWords
+pub mod PlaceWords

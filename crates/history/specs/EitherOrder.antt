@@ -1,5 +1,5 @@
 -- Request Q-11: "Our radio layer delivers events of different partners in whichever order they come."
--- Defines: Delivered, recordsOf, Differ, DifferAll, Different, versions, Compared, Answer, answerOf, next, alone, Alike, Permuted.
+-- Defines: Delivered, recordsOf, Differ, DifferAll, Different, versions, Compared, Reply, answerOf, next, alone, Alike, Permuted.
 use Prim.Native.Nat.{ℕ, _+_, _≤_}
 use mathlib.Core.Bool.{false}
 use mathlib.Core.Path.{_≡_}
@@ -49,19 +49,19 @@ abbrev pub Compared : List Delivered → Type 0
 Compared xs = versions xs ≤ 1
 
 -- "each its own same number and actions", and of Q-6 place and phase
-pub record Answer : Type 0 where
+pub record Reply : Type 0 where
   pub code : ℕ
   pub standing : Standing
   pub actions : List Action
 
-abbrev pub answerOf : Outcome → Answer
+abbrev pub answerOf : Outcome → Reply
 answerOf o = record { code = o .code; standing = o .standing; actions = o .actions }
 
 -- the state after one of them, and what it gets, from this state
 abbrev pub next : State → Delivered → State
 next s x = onRecord s (x .bytes) actionRoom .state
 
-abbrev pub alone : State → Delivered → Answer
+abbrev pub alone : State → Delivered → Reply
 alone s x = answerOf (onRecord s (x .bytes) actionRoom)
 
 -- "the same state", the last known RBC "left out of the comparison"

@@ -1,5 +1,5 @@
 -- Request Q-11: where the promise ends. Pairs of records that do differ with their order, from a cold start with X 1 to 2 and three tries.
--- Defines: Pair, told, bothWays, pairs, lastBothWays, twoVersions.
+-- Defines: Pair, codeAndNumbers, bothWays, pairs, lastBothWays, twoVersions.
 use Prim.Native.Nat.{ℕ}
 use mathlib.Core.List.{List, [], _∷_, map}
 use Rattle.place.specs.Places.{fleetTries}
@@ -17,8 +17,8 @@ pub record Pair : Type 0 where
   pub other : List ℕ
 
 -- 0 or the refusal, then the numbers of the actions
-abbrev pub told : Outcome → List ℕ
-told o = o .code ∷ map (λ a. a .number) (o .actions)
+abbrev pub codeAndNumbers : Outcome → List ℕ
+codeAndNumbers o = o .code ∷ map (λ a. a .number) (o .actions)
 
 -- what the one and the other get where the one comes first, and what they get where the other does
 unfoldable pub bothWays : Pair → List (List (List ℕ))
@@ -26,8 +26,8 @@ bothWays pair =
     let s : State = after (started fleetTries) (pair .before) in
     let first : Outcome = onRecord s (pair .one) actionRoom in
     let second : Outcome = onRecord s (pair .other) actionRoom in
-    (told first ∷ told (onRecord (first .state) (pair .other) actionRoom) ∷ [])
-    ∷ (told (onRecord (second .state) (pair .one) actionRoom) ∷ told second ∷ [])
+    (codeAndNumbers first ∷ codeAndNumbers (onRecord (first .state) (pair .other) actionRoom) ∷ [])
+    ∷ (codeAndNumbers (onRecord (second .state) (pair .one) actionRoom) ∷ codeAndNumbers second ∷ [])
     ∷ []
 
 -- three calls

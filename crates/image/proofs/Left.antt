@@ -23,7 +23,7 @@ use Rattle.unit.specs.States.{placeCount, some, limitsOk, absentFrom}
 use Rattle.unit.proofs.Facts.{sound-facts}
 use Rattle.image.specs.Images.{sizeA2, placeSize, placeBytes, placesAt, tailAt, lastAt, lastBytes, wholeBytes, imageA2}
 use Rattle.image.specs.Images.{stateIn, readA2}
-use Rattle.image.specs.Rescue.{mendPlace, mendPlaces, keep, keepFirst, mended, fields, changed, listing}
+use Rattle.image.specs.Rescue.{mendPlace, mendPlaces, keep, keepFirst, mended, fieldOffsets, changed, listing}
 use Rattle.image.specs.Rescue.{spoilt, left, rescue, rescued}
 use Rattle.image.proofs.Bytes.{stateIn-whole, whole-tail, imageA2-length}
 use Rattle.image.proofs.RoundTrips.{writtenA2-read, place-in-either}
@@ -56,7 +56,7 @@ module _ (image : List ℕ) (ok : rescue image .code ≡ accepted) where
 
   leaves : (b : Bool)
       → spoilt image ≡ b
-      → cond b (listing accepted (changed fields image (left image))) (listing (readA2 image .code) []) .code ≡ accepted
+      → cond b (listing accepted (changed fieldOffsets image (left image))) (listing (readA2 image .code) []) .code ≡ accepted
       → Leaves b
   leaves true is h = (
     refl,

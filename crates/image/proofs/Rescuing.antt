@@ -32,7 +32,7 @@ use Rattle.unit.specs.declared.start.Started.{Started}
 use Rattle.image.specs.Images.{placeSize, placeBytes, headSize, lastSize, lastBytes, placesAt, lastAt, placeIn, lastIn, sameBytes}
 use Rattle.image.specs.Rescue.{within, mendPlace, mendPlaces, keep, keepFirst, isLastOf, mendLast}
 use Rattle.image.specs.Images.{kindA2, sizeA2, imageA2, stateIn, readRefused, readBody, ofLength, readA2}
-use Rattle.image.specs.Rescue.{fields, mostFields, sizeOf, part, changed, listing, spoilt, left, rescue, rescued}
+use Rattle.image.specs.Rescue.{fieldOffsets, mostFields, sizeOf, part, changed, listing, spoilt, left, rescue, rescued}
 
 pub within-kept : (most n : ℕ) → n ≤ most → n ≡ within most n
 within-kept most n good = sym (ap (λ b. cond b n 0) (le-leb n most good))
@@ -246,9 +246,9 @@ seven-written Free = refl
 seven-written (Held d ph p) = refl
 
 -- each field ends inside the image
-pub field-fits : (i : ℕ) → getD fields i 0 + sizeOf (getD fields i 0) ≤ 42
+pub field-fits : (i : ℕ) → getD fieldOffsets i 0 + sizeOf (getD fieldOffsets i 0) ≤ 42
 field-fits i =
-    getD-all (λ at. at + sizeOf at ≤ 42) fields 0 (
+    getD-all (λ at. at + sizeOf at ≤ 42) fieldOffsets 0 (
       omega arith,
       (
         omega arith,
@@ -303,18 +303,18 @@ module _ (image : List ℕ) where
   pub rescue-mends :
       readA2 image .code ≡ notSound
       → limitsOk (stateIn (drop 1 image) .limits) ≡ true
-      → (listing accepted (changed fields image (left image)) ≡ rescue image) × (left image ≡ rescued image)
+      → (listing accepted (changed fieldOffsets image (left image)) ≡ rescue image) × (left image ≡ rescued image)
   unfolding rescue rescued
   rescue-mends bad good =
       let is : spoilt image ≡ true = and-both _ _ (eq-eqb (readA2 image .code) notSound bad) good in (
-        sym (ap (λ b. cond b (listing accepted (changed fields image (left image))) (listing (readA2 image .code) [])) is),
+        sym (ap (λ b. cond b (listing accepted (changed fieldOffsets image (left image))) (listing (readA2 image .code) [])) is),
         sym (ap (λ b. cond b (left image) image) is),
       )
 
   pub rescue-leaves : spoilt image ≡ false → (listing (readA2 image .code) [] ≡ rescue image) × (image ≡ rescued image)
   unfolding rescue rescued
   rescue-leaves not-so = (
-    sym (ap (λ b. cond b (listing accepted (changed fields image (left image))) (listing (readA2 image .code) [])) not-so),
+    sym (ap (λ b. cond b (listing accepted (changed fieldOffsets image (left image))) (listing (readA2 image .code) [])) not-so),
     sym (ap (λ b. cond b (left image) image) not-so),
   )
 

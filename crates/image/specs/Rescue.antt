@@ -1,6 +1,6 @@
 -- Request Q-13: a spoilt image A2 is mended, and what was mended is listed.
 -- Defines: within, mendTrain, mendMarks, isPlaceOf, mendPlace, mendPlaces, keep, keepFirst, isLastOf, mendLast, mended,
--- fields, mostFields, sizeOf, part, changed, listing, told, spoilt, left, rescue, rescued, isIn, ascends, spoiltExample,
+-- fieldOffsets, mostFields, sizeOf, part, changed, listing, told, spoilt, left, rescue, rescued, isIn, ascends, spoiltExample,
 -- mendedExample, everyExample.
 use Prim.Native.Nat.{ℕ, zero, suc, _+_}
 use mathlib.Core.Bool.{Bool, true, false, cond, _&&_, _||_, not}
@@ -75,8 +75,8 @@ mended body =
     }
 
 -- the fields that can change, by their first offset: level, mission, the four marks, the four places, the last RBC
-abbrev pub fields : List ℕ
-fields = 3 ∷ 4 ∷ 5 ∷ 6 ∷ 7 ∷ 8 ∷ 9 ∷ 16 ∷ 23 ∷ 30 ∷ 38 ∷ []
+abbrev pub fieldOffsets : List ℕ
+fieldOffsets = 3 ∷ 4 ∷ 5 ∷ 6 ∷ 7 ∷ 8 ∷ 9 ∷ 16 ∷ 23 ∷ 30 ∷ 38 ∷ []
 
 abbrev pub mostFields : ℕ
 mostFields = 11
@@ -112,7 +112,7 @@ left image = imageA2 (mended (drop 1 image))
 -- what a rescue answers, and the bytes after it: "Refusals: 1 and 2 as for reading", 11; "a sound image is unchanged with an empty list"
 unfoldable pub rescue : List ℕ → Rescued
 rescue image =
-    cond (spoilt image) (listing accepted (changed fields image (left image))) (listing (readA2 image .code) [])
+    cond (spoilt image) (listing accepted (changed fieldOffsets image (left image))) (listing (readA2 image .code) [])
 
 unfoldable pub rescued : List ℕ → List ℕ
 rescued image = cond (spoilt image) (left image) image

@@ -7,7 +7,7 @@ ghost use lib.ListN.{length, set, take, drop};
 ghost use Rattle.unit.specs.States.{placeCount, limitsOk, absentFrom};
 ghost use Rattle.image.specs.Images.{headSize, placeBytes, lastAt, stateIn, sameBytes};
 ghost use Rattle.image.specs.Rescue.{within, mendTrain, mendMarks, mendPlace, mendPlaces, keep, keepFirst, mendLast, mended};
-ghost use Rattle.image.specs.Rescue.{mostFields, fields, sizeOf, part, changed, listing, left, rescue, rescued};
+ghost use Rattle.image.specs.Rescue.{mostFields, fieldOffsets, sizeOf, part, changed, listing, left, rescue, rescued};
 ghost use Rattle.wire.specs.Refusals.{accepted};
 use crate::layout::LAST_AT;
 use crate::layout::LAST_SIZE;
@@ -274,7 +274,7 @@ impl Rescued {
 // The answer that lists the fields in which two images differ.
 fn differing(old: &[u8], new: &[u8]) -> Rescued
     requires { ⌜ (length (now old) ≡ 42) × (length (now new) ≡ 42) ⌝ }
-    ensures { λ r. ⌜ r ≡ listing accepted (changed fields (now (old .entry)) (now (new .entry))) ⌝ }
+    ensures { λ r. ⌜ r ≡ listing accepted (changed fieldOffsets (now (old .entry)) (now (new .entry))) ⌝ }
 {
     let firsts = [3u8, 4, 5, 6, 7, 8, 9, 16, 23, 30, 38];
     let mut answer = nothing(ACCEPTED);
@@ -290,7 +290,7 @@ fn differing(old: &[u8], new: &[u8]) -> Rescued
 fn mend(image: &mut [u8]) -> Rescued
     requires { ⌜ (length (now image) ≡ 42) × (limitsOk (stateIn (drop 1 (now image)) .limits) ≡ true) ⌝ }
     ensures { λ r.
-        ⌜ (r ≡ listing accepted (changed fields (now (image .entry)) (left (now (image .entry)))))
+        ⌜ (r ≡ listing accepted (changed fieldOffsets (now (image .entry)) (left (now (image .entry)))))
         × (now (image .exit) ≡ left (now (image .entry))) ⌝ }
 {
     let state = mended(&image[1..]);

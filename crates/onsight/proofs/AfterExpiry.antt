@@ -11,10 +11,12 @@ use Rattle.onsight.specs.Numbers.{accepted, notTakenHere}
 use Rattle.onsight.specs.Procedures.{cell, fresh, taken, step, serviceBrake}
 use Rattle.onsight.specs.Histories.{met, endOf, after, codes, isAcknowledgement, unacknowledged}
 use Rattle.onsight.specs.declared.event.Event.{Event}
-use Rattle.onsight.specs.declared.event.Event.the-variants.{Profile, Window, Start, Acknowledgement, Expiry}
+use Rattle.onsight.specs.declared.event.Event.the-variants.{Acknowledgement, Expiry}
 use Rattle.onsight.specs.declared.procedure.State.{State}
 use Rattle.onsight.specs.declared.procedure.State.the-variants.{Idle, Waiting, Asked, Late, Braking, Done}
 use Rattle.onsight.specs.declared.procedure.Cell.the-variants.{No}
+use Rattle.onsight.proofs.Agreed.Rows.{late-answers}
+use Rattle.onsight.proofs.Agreed.Tests.{isAcknowledgement-means}
 use Rattle.onsight.proofs.WholeTable.{line-rule, taken-rule, by-cell}
 use Rattle.onsight.proofs.Histories.{after-append, codes-append, NoneTaken, none-taken, kept}
 
@@ -37,18 +39,11 @@ past Late = false
 past Braking = true
 past Done = true
 
-is-acknowledgement : (e : Event) → isAcknowledgement e ≡ true → e ≡ Acknowledgement
-is-acknowledgement (Profile area mode) h = absurd (true≢false (sym h))
-is-acknowledgement Window h = absurd (true≢false (sym h))
-is-acknowledgement Start h = absurd (true≢false (sym h))
-is-acknowledgement Acknowledgement h = refl
-is-acknowledgement Expiry h = absurd (true≢false (sym h))
-
 past-takes : (s : State) → past s ≡ true → (e : Event) → step s e .code ≡ accepted → e ≡ Acknowledgement
 past-takes s gone e =
     by-cell (λ a. a .code ≡ accepted → e ≡ Acknowledgement) s (cell s e)
     (λ is h. absurd (omega arith))
-    (λ next gives h. is-acknowledgement e
+    (λ next gives h. isAcknowledgement-means e .0
     (sym (ap (λ b. cond b (isAcknowledgement e) true) gone)
     ∙ taken-rule (λ s e next. cond (past s) (isAcknowledgement e) true) (λ s e. true) refl s e next gives))
 
@@ -61,7 +56,7 @@ module _ (es : List Event) (late : after fresh es ≡ Late) where
       × (serviceBrake (after fresh (es ++ (Expiry ∷ []))) ≡ true)
   unfolding met endOf
   late-brakes = (
-    ap (λ s. step s Expiry) late,
+    ap (λ s. step s Expiry) late ∙ late-answers .8,
     ap serviceBrake (after-append fresh es (Expiry ∷ []) ∙ ap (λ s. after s (Expiry ∷ [])) late),
   )
 

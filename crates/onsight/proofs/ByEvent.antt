@@ -1,4 +1,4 @@
--- Where each event is taken, and what none passes by.
+-- Where each event is taken, and what holds after the start.
 -- Proves: profile-idle, start-in-force, acknowledgement-asked, expiry-late.
 use mathlib.Core.Path.{_≡_, refl}
 use mathlib.Core.Bool.{true, false, true≢false}
@@ -23,7 +23,7 @@ profile-idle s e =
     (λ is h. absurd (omega arith))
     (λ next gives h. taken-rule (λ s e next. isProfile e) (λ s e. isIdle s) refl s e next gives)
 
--- "the safe front passing the start gives Late": once a profile has come, nobody passes the start without OS in force
+-- "the safe front passing the start gives Late": where it is told, in every state but Idle, OS is in force after it, taken or refused
 -- promise
 pub start-in-force : (s : State)
     → isIdle s ≡ false

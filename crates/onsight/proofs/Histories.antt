@@ -1,8 +1,8 @@
 -- Histories one after the other; histories of which nothing is taken; tests that every history keeps.
 -- Defines: NoneTaken.
--- Proves: met-append, after-append, codes-append, every-all, none-taken, kept.
+-- Proves: after-append, codes-append, every-all, none-taken, kept.
 use mathlib.Core.Path.{_≡_, refl, sym, ap, _∙_}
-use mathlib.Core.Bool.{Bool, true, false, cond, _&&_, true≢false}
+use mathlib.Core.Bool.{Bool, true, cond}
 use mathlib.Core.List.{List, [], _∷_, _++_, map, map-append}
 use Prim.Native.Nat.{ℕ}
 use native.Mathlib.Omega.{arith}
@@ -14,13 +14,8 @@ use Rattle.onsight.specs.declared.event.Event.{Event}
 use Rattle.onsight.specs.declared.procedure.State.{State}
 use Rattle.onsight.specs.declared.procedure.Cell.{Cell}
 use Rattle.onsight.specs.declared.procedure.Cell.the-variants.{No, To}
+use Rattle.onsight.proofs.Agreed.Meanings.{met-append, and-left, and-right}
 use Rattle.onsight.proofs.WholeTable.{drawn, onTaken, taken-rule, by-cell}
-
-pub met-append : (s : State) (es fs : List Event) → met s (es ++ fs) ≡ met s es ++ met (after s es) fs
-unfolding met endOf
-met-append s [] fs = refl
-met-append s (e ∷ es) fs =
-    ap (λ ms. record { state = s; event = e; answer = step s e } ∷ ms) (met-append (step s e .state) es fs)
 
 pub after-append : (s : State) (es fs : List Event) → after s (es ++ fs) ≡ after (after s es) fs
 unfolding met endOf
@@ -37,14 +32,6 @@ pub every-all : (es : List Event) → every (λ e. true) es ≡ true
 unfolding every
 every-all [] = refl
 every-all (e ∷ es) = every-all es
-
-and-left : (a b : Bool) → (a && b) ≡ true → a ≡ true
-and-left true b h = refl
-and-left false b h = h
-
-and-right : (a b : Bool) → (a && b) ≡ true → b ≡ true
-and-right true b h = h
-and-right false b h = absurd (true≢false (sym h))
 
 -- each event of a history is refused, and the state stays
 abbrev pub NoneTaken : State → List Event → Type 0

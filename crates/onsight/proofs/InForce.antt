@@ -1,17 +1,18 @@
 -- When OS is in force, when a procedure is done, and that both stay so.
--- Proves: in-force-any, done-any, in-force-stays, done-codes, done-stays.
-use mathlib.Core.Path.{_≡_, refl, ap, _∙_}
+-- Proves: in-force-any, done-any, done-in-force, brake-in-force, in-force-stays, done-codes, done-stays.
+use mathlib.Core.Path.{_≡_, refl, sym, ap, _∙_}
 use mathlib.Core.Bool.{Bool, true, false, cond, _||_}
 use mathlib.Core.List.{List, [], _∷_, _++_}
 use lib.Dec.{eqb}
 use lib.ListN.{length, replicate}
 use Rattle.onsight.specs.Numbers.{accepted, notTakenHere}
-use Rattle.onsight.specs.Procedures.{cell, fresh, osInForce}
+use Rattle.onsight.specs.Procedures.{cell, fresh, osInForce, serviceBrake}
 use Rattle.onsight.specs.Histories.{met, endOf, after, codes, acceptedOf, acceptedIn, anyIs, isDone, bringsOS, ends}
 use Rattle.onsight.specs.declared.event.Event.{Event}
 use Rattle.onsight.specs.declared.procedure.State.{State}
 use Rattle.onsight.specs.declared.procedure.State.the-variants.{Done}
 use Rattle.onsight.specs.declared.procedure.Cell.the-variants.{No}
+use Rattle.onsight.proofs.Agreed.Rows.{serviceBrake-states}
 use Rattle.onsight.proofs.WholeTable.{drawn, onTaken, line-rule, taken-rule, by-cell}
 use Rattle.onsight.proofs.Histories.{after-append, codes-append, every-all, NoneTaken, none-taken, kept}
 
@@ -48,6 +49,25 @@ in-force-any es = any-from osInForce bringsOS refl fresh es
 -- promise
 pub done-any : (es : List Event) → isDone (after fresh es) ≡ anyIs ends false (acceptedIn fresh es)
 done-any es = any-from isDone ends refl fresh es
+
+-- 002, invariant inv6, "whenever the final state is reached, the mode of the train is on-sight": it is in force, and an accepted event
+-- has brought it
+-- promise
+pub done-in-force : (es : List Event)
+    → after fresh es ≡ Done
+    → (osInForce (after fresh es) ≡ true)
+    × (anyIs bringsOS false (acceptedIn fresh es) ≡ true)
+done-in-force es done = (ap osInForce done, sym (in-force-any es) ∙ ap osInForce done)
+
+-- and so it is wherever the service brake is on
+-- promise
+pub brake-in-force : (es : List Event)
+    → serviceBrake (after fresh es) ≡ true
+    → (osInForce (after fresh es) ≡ true)
+    × (anyIs bringsOS false (acceptedIn fresh es) ≡ true)
+brake-in-force es on =
+    let braking = serviceBrake-states (after fresh es) .0 on in
+    (ap osInForce braking, sym (in-force-any es) ∙ ap osInForce braking)
 
 -- once OS is in force it stays so to the end of the procedure
 -- promise

@@ -1,3 +1,4 @@
 pub mod Numbers
 pub mod Procedures
 pub mod Histories
+pub mod Instances

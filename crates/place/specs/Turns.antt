@@ -1,5 +1,5 @@
 -- What the promises on a turn of a place speak of.
--- Defines: ownNumbers, onNext, firstTries, fresh, NextSound, SeatOf.
+-- Defines: ownNumbers, onNext, firstTries, afresh, NextSound, SeatOf.
 use Rattle.record.specs.declared.partner.Partner.{Partner}
 use Rattle.place.specs.declared.phase.Phase.{Phase}
 use Rattle.place.specs.declared.phase.Phase.the-variants.{Connecting, Contacting, Open, Lost, Ending}
@@ -34,8 +34,8 @@ firstTries (Lost t) = 1
 firstTries (Ending t) = 1
 
 -- one more try in the same phase, or the first of another
-abbrev pub fresh : Phase → Phase → Bool
-fresh ph q = cond (eqb (phaseNumber ph) (phaseNumber q)) (eqb (tries q) (tries ph + 1)) (eqb (tries q) (firstTries q))
+abbrev pub afresh : Phase → Phase → Bool
+afresh ph q = cond (eqb (phaseNumber ph) (phaseNumber q)) (eqb (tries q) (tries ph + 1)) (eqb (tries q) (firstTries q))
 
 -- the next phase is sound, and fit for an incoming place where the phase was
 abbrev pub NextSound : Limits → Phase → Turn → Type 0

@@ -1,7 +1,11 @@
 pub mod Numbers
+pub mod Decimals
+pub mod Fields
 pub mod Pushing
 pub mod Room
 pub mod Sheets
+pub mod Lines
+pub mod SheetLines
 pub mod Putting
 pub mod Pages
 pub mod Filling

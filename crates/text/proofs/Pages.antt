@@ -24,7 +24,7 @@ use Rattle.unit.proofs.Runs.Going.{whole-ok}
 use Rattle.text.specs.Texts.{lineText, endText, placed}
 use Rattle.text.specs.Making.{textRoom, placedCount}
 use Rattle.text.specs.Sheets.{mostInput, sheetBudget, courseText}
-use Rattle.text.specs.Pages.{putAt, given, nextLine, nextPage, toCome}
+use Rattle.text.specs.Pages.{putAt, outcomeOf, nextLine, nextPage, toCome}
 use Rattle.text.specs.declared.sheet.Page.{Page}
 use Rattle.text.proofs.Room.{line-room}
 use Rattle.text.proofs.Putting.{put-part}
@@ -33,12 +33,12 @@ use Rattle.text.proofs.Putting.{put-part}
 pub next-room : (p : Page) (bytes : List ℕ) → length (nextLine p bytes) ≤ textRoom
 unfolding nextLine
 next-room p bytes =
-    let o = given p bytes in
+    let o = outcomeOf p bytes in
     line-room (p .number + 1) (byte bytes 0) (o .code) (o .actions) (onRecord-few (p .state) bytes actionRoom)
 
 -- the line that the answer to a record gives, and the sheet with it
 module _ (p : Page) (bytes : List ℕ) (answer : Answer) (made : answer ≡ packed (applied (p .state) bytes)) where
-  is-given : answer ≡ packed (given p bytes)
+  is-given : answer ≡ packed (outcomeOf p bytes)
   unfolding onRecord
   is-given = made
 
@@ -47,7 +47,7 @@ module _ (p : Page) (bytes : List ℕ) (answer : Answer) (made : answer ≡ pack
       → lineText (p .number + 1) kind (answer .code) (take (answer .actions .count) (answer .actions .items)) ≡ nextLine p bytes
   unfolding nextLine packed
   next-line kind first =
-      let o = given p bytes in
+      let o = outcomeOf p bytes in
       ap₂ (λ k (a : Answer). lineText (p .number + 1) k (a .code) (take (a .actions .count) (a .actions .items))) first is-given
       ∙ ap (lineText (p .number + 1) (byte bytes 0) (o .code))
       (listed-take (o .actions) (onRecord-few (p .state) bytes actionRoom))
@@ -153,7 +153,7 @@ module _ (p : Page) (input : List ℕ) (short : length input ≤ mostInput) (cou
     unfolding toCome courseText rest nextLine nextPage
     to-come-next bytes lent =
         let part = take k rest in
-        let o = given p part in
+        let o = outcomeOf p part in
         let size = whole-part .2 in
         let left : sheetBudget - p .number - 1 ≡ sheetBudget - (p .number + 1) = omega arith in
         let after = drop-drop k (p .at) input ∙ ap (λ m. drop (p .at + m) input) (sym size) in

@@ -1,6 +1,6 @@
 -- Every sheet has room, and the sheet that document 01 prints is the defined one.
 -- Proves: course-fits, sheet-fits, count-fits, sheet-example, sheet-refusals, sheet-too-long, sheet-runs,
--- sheet-counted, sheet-placed, decimal-largest, line-four.
+-- sheet-counted, sheet-placed, sheet-uncounted, sheet-unplaced, decimal-largest, line-four.
 use mathlib.Core.Path.{_≡_, refl, sym, ap, subst, _∙_}
 use mathlib.Core.Bool.{cond}
 use mathlib.Core.List.{List, [], _∷_, _++_}
@@ -122,6 +122,18 @@ sheet-placed input buffer enough =
     let fits : length text ≤ length buffer = omega (arith, sheet-fits input) in
     ap (λ b. cond b (placed text buffer) buffer) (le-leb sheetRoom (length buffer) enough)
     ∙ ap (λ b. cond b (text ++ drop (length text) buffer) buffer) (le-leb (length text) (length buffer) fits)
+
+-- with less room nothing is counted and nothing written
+-- promise
+pub sheet-uncounted : (input : List ℕ) (room : ℕ) → room < 786_646 → sheetCount input room ≡ 0
+unfolding sheetCount
+sheet-uncounted input room small = ap (λ b. cond b (length (sheetText input)) 0) (lt-leb sheetRoom room small)
+
+-- promise
+pub sheet-unplaced : (input buffer : List ℕ) → length buffer < 786_646 → sheetPlaced input buffer ≡ buffer
+unfolding sheetPlaced
+sheet-unplaced input buffer small =
+    ap (λ b. cond b (placed (sheetText input) buffer) buffer) (lt-leb sheetRoom (length buffer) small)
 
 -- "numbers are decimal": the largest of a partner
 -- promise

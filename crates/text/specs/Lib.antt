@@ -3,3 +3,4 @@ pub mod Sheets
 pub mod SheetExample
 pub mod Making
 pub mod Pages
+pub mod Lines

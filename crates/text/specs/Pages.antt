@@ -1,5 +1,5 @@
 -- Only private contracts use what stands here: a sheet while it is written.
--- Defines: putAt, given, nextLine, nextPage, toCome, Ready, Follows.
+-- Defines: putAt, outcomeOf, nextLine, nextPage, toCome, Ready, Follows.
 use Rattle.text.specs.declared.sheet.Page.{Page}
 use Prim.Native.Nat.{ℕ, _+_, _*_, _-_, _≤_}
 use mathlib.Core.List.{List, _++_}
@@ -17,16 +17,16 @@ unfoldable pub putAt : List ℕ → ℕ → List ℕ → List ℕ
 putAt text at buffer = take at buffer ++ (text ++ drop (at + length text) buffer)
 
 -- what a record gives, its line, and the sheet with it
-abbrev pub given : Page → List ℕ → Outcome
-given p bytes = onRecord (p .state) bytes actionRoom
+abbrev pub outcomeOf : Page → List ℕ → Outcome
+outcomeOf p bytes = onRecord (p .state) bytes actionRoom
 
 unfoldable pub nextLine : Page → List ℕ → List ℕ
-nextLine p bytes = lineText (p .number + 1) (byte bytes 0) (given p bytes .code) (given p bytes .actions)
+nextLine p bytes = lineText (p .number + 1) (byte bytes 0) (outcomeOf p bytes .code) (outcomeOf p bytes .actions)
 
 unfoldable pub nextPage : Page → List ℕ → Page
 nextPage p bytes =
     record {
-      state = given p bytes .state;
+      state = outcomeOf p bytes .state;
       at = p .at + length bytes;
       number = p .number + 1;
       used = p .used + length (nextLine p bytes);

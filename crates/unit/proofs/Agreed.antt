@@ -17,4 +17,5 @@ pub mod Standings
 pub mod Starts
 pub mod Stays
 pub mod Turned
+pub mod Words
 pub mod Writing

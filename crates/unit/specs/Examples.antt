@@ -136,8 +136,8 @@ p4 =
     ∷ []
 
 -- the four calls of P5 taken
-abbrev called : State
-called = idle (inc Open (rbcNo 1) ∷ inc Open (rbcNo 2) ∷ inc Open (rbcNo 3) ∷ inc Open (rbcNo 4) ∷ []) knowing 4
+abbrev fourCalled : State
+fourCalled = idle (inc Open (rbcNo 1) ∷ inc Open (rbcNo 2) ∷ inc Open (rbcNo 3) ∷ inc Open (rbcNo 4) ∷ []) knowing 4
 
 -- "P5 four calls 38 from RBC 1 to 4; RBC 5 gets 8, RBC 1 gets 5."
 p5 : List Line
@@ -147,14 +147,14 @@ p5 =
     leaves idle (inc Open (rbcNo 1) ∷ inc Open (rbcNo 2) ∷ []) knowing 2)
     ∷ ((11 ∷ 0 ∷ 0 ∷ 0 ∷ 3 ∷ 38 ∷ 0 ∷ []) sends (159 to rbcNo 3 ∷ [])
     leaves idle (inc Open (rbcNo 1) ∷ inc Open (rbcNo 2) ∷ inc Open (rbcNo 3) ∷ []) knowing 3)
-    ∷ ((11 ∷ 0 ∷ 0 ∷ 0 ∷ 4 ∷ 38 ∷ 0 ∷ []) sends (159 to rbcNo 4 ∷ []) leaves called)
-    ∷ ((11 ∷ 0 ∷ 0 ∷ 0 ∷ 5 ∷ 38 ∷ 0 ∷ []) gives 8 leaves called)
-    ∷ ((11 ∷ 0 ∷ 0 ∷ 0 ∷ 1 ∷ 38 ∷ 0 ∷ []) says 5 at 0 phase 3 leaves called)
+    ∷ ((11 ∷ 0 ∷ 0 ∷ 0 ∷ 4 ∷ 38 ∷ 0 ∷ []) sends (159 to rbcNo 4 ∷ []) leaves fourCalled)
+    ∷ ((11 ∷ 0 ∷ 0 ∷ 0 ∷ 5 ∷ 38 ∷ 0 ∷ []) gives 8 leaves fourCalled)
+    ∷ ((11 ∷ 0 ∷ 0 ∷ 0 ∷ 1 ∷ 38 ∷ 0 ∷ []) says 5 at 0 phase 3 leaves fourCalled)
     ∷ []
 
 -- "P6 then 38 from RIU 1: 9."
 p6 : List Line
-p6 = p5 ++ (((11 ∷ 1 ∷ 0 ∷ 0 ∷ 1 ∷ 38 ∷ 0 ∷ []) gives 9 leaves called) ∷ [])
+p6 = p5 ++ (((11 ∷ 1 ∷ 0 ∷ 0 ∷ 1 ∷ 38 ∷ 0 ∷ []) gives 9 leaves fourCalled) ∷ [])
 
 -- "P7 RBC 1 Open in place 0, RIU 2 Open in place 1; order RBC 3, accepting 0, cause 1: 156:0/1, then 21:0/3."
 p7 : List Line
@@ -229,8 +229,8 @@ knownThen =
     ∷ []
 
 -- the four places taken by orders
-abbrev ordered : State
-ordered =
+abbrev fourOrdered : State
+fourOrdered =
     idle (out (Connecting 1) (rbcNo 1) ∷ out (Connecting 1) (rbcNo 2) ∷ out (Connecting 1) (rbcNo 3)
     ∷ out (Connecting 1) (rbcNo 4) ∷ [])
 
@@ -242,8 +242,8 @@ fullThen =
     leaves idle (out (Connecting 1) (rbcNo 1) ∷ out (Connecting 1) (rbcNo 2) ∷ []))
     ∷ ((5 ∷ 0 ∷ 0 ∷ 0 ∷ 3 ∷ 1 ∷ 1 ∷ []) sends (21 to rbcNo 3 ∷ [])
     leaves idle (out (Connecting 1) (rbcNo 1) ∷ out (Connecting 1) (rbcNo 2) ∷ out (Connecting 1) (rbcNo 3) ∷ []))
-    ∷ ((5 ∷ 0 ∷ 0 ∷ 0 ∷ 4 ∷ 1 ∷ 1 ∷ []) sends (21 to rbcNo 4 ∷ []) leaves ordered)
-    ∷ ((5 ∷ 0 ∷ 0 ∷ 63 ∷ 255 ∷ 1 ∷ 1 ∷ []) gives 15 leaves ordered)
+    ∷ ((5 ∷ 0 ∷ 0 ∷ 0 ∷ 4 ∷ 1 ∷ 1 ∷ []) sends (21 to rbcNo 4 ∷ []) leaves fourOrdered)
+    ∷ ((5 ∷ 0 ∷ 0 ∷ 63 ∷ 255 ∷ 1 ∷ 1 ∷ []) gives 15 leaves fourOrdered)
     ∷ []
 
 -- both

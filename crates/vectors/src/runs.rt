@@ -88,6 +88,19 @@ pub(crate) fn run_holds(s: &[u8]) -> bool {
     )
 }
 
+// A run over a log of the vector, held by its parts alone: what is wrong for both would else be seen in neither.
+pub(crate) fn parts_hold(s: &[u8]) -> bool {
+    let numbers = rest(s, STATE_SIZE);
+    let length = short_at(numbers, 4);
+    let bytes = rest(numbers, 6);
+    turns_are(
+        state_in(s),
+        front(bytes, length),
+        long_at(numbers, 0),
+        rest(bytes, length),
+    )
+}
+
 fn around(i: usize, n: usize) -> usize {
     if n == 0 { 0 } else { i % n }
 }

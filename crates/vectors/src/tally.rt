@@ -7,7 +7,7 @@ use libc::STDOUT_FILENO;
 const ROWS: usize = 14;
 
 // The most failures that are named.
-const MOST_NAMED: u64 = 100;
+const MOST_NAMED: u64 = 1000;
 
 // Vectors judged and failed, of each group and in all; row 0 is for vectors of no group.
 pub struct Tally {
@@ -95,7 +95,7 @@ impl Tally {
         next
     }
 
-    // One vector more; a failure is named at once, unless a hundred are.
+    // One vector more; a failure is named at once, unless a thousand are.
     pub(crate) fn add(self, group: u8, holds: bool) -> Tally {
         if holds {
             self.pass(group)

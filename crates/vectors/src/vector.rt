@@ -7,6 +7,7 @@ use crate::mixes::mixes_hold;
 use crate::part::rest;
 use crate::rescues::rescue_holds;
 use crate::runs::long_run_holds;
+use crate::runs::parts_hold;
 use crate::runs::run_holds;
 use crate::single::default_holds;
 use crate::single::load_a2_holds;
@@ -57,6 +58,9 @@ const LOAD_A2: u8 = 11;
 // length (1), bytes; code, count, the fields, the bytes at exit
 const RESCUE: u8 = 12;
 
+// as RUN, without the code and the totals: taken and applied in turn
+const PARTS: u8 = 13;
+
 // The group of a vector; 0 where no group has that number.
 pub(crate) fn group_of(body: &[u8]) -> u8 {
     let group = byte_at(body, 0);
@@ -77,6 +81,7 @@ fn operation_holds(operation: u8, s: &[u8]) -> bool {
         STORE_A1 => store_a1_holds(s),
         LOAD_A2 => load_a2_holds(s),
         RESCUE => rescue_holds(s),
+        PARTS => parts_hold(s),
         _ => false,
     }
 }

@@ -1,6 +1,5 @@
-// All vectors of the independent model, judged; then some of which eight are spoilt (a code, a place, a phase, a place where 4 is due,
-// a number of tries, a last known RBC, a field that a rescue lists, a byte that it leaves), so that the judge has to name these and no
-// other; then an image, held to bytes that were written by hand.
+// All vectors of the independent model, judged; then a few of each group, good and with each compared field wrong by itself
+// (independent-model/spoil.c), so that the judge has to name these and no other; then an image, held to bytes that were written by hand.
 mod mixed;
 
 fn main() {

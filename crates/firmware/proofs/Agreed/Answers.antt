@@ -242,7 +242,7 @@ module _ (lowest highest tries : ℕ) (image : List ℕ) where
     ok : coldStart m .code ≡ accepted
     ok = coldStart-accepted m .1 within
 
-    state-is : coldStart m .state ≡ cold (record { lowest = lowest; highest = highest; tries = tries })
+    pub state-is : coldStart m .state ≡ cold (record { lowest = lowest; highest = highest; tries = tries })
     unfolding coldStart
     state-is =
         let good = sym (limits-started m) ∙ eq-eqb (coldStart m .code) accepted ok in

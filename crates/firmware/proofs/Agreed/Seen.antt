@@ -1,6 +1,6 @@
 -- Request Q-14: "Demands 2 and 3 are read through the images, starting from one that a cold start wrote".
 -- Proves: imageA2-seen, image-follows, numbers-follow, bytes-follow, sums-follow, seen-bound, seen-taken-in, seen-reached,
--- seen-waiting, seen-released-once.
+-- seen-reached-lent, seen-waiting, seen-released-once.
 use mathlib.Core.Path.{_≡_, refl, sym, ap, ap₂, subst, _∙_}
 use mathlib.Core.Logic.{_↔_, _⊎_}
 use mathlib.Core.Bool.{Bool, true, false, cond, _&&_}
@@ -9,7 +9,7 @@ use Prim.Native.Nat.{ℕ, _+_, _*_, _≤_, _<_}
 use native.Mathlib.Omega.{arith}
 use lib.Dec.{eqb}
 use lib.IntN.{pos, negℤ}
-use lib.ListN.{length, take, drop}
+use lib.ListN.{length, take, drop, replicate}
 use lib.Seq.{take-at}
 use borrow.Author.Tests.{eq-eqb}
 use Rattle.wire.specs.Refusals.{accepted}
@@ -42,12 +42,13 @@ use Rattle.history.proofs.Reached.{reached}
 use Rattle.history.proofs.TakenIn.{taken-in}
 use Rattle.history.proofs.Waiting.{waiting, released-once}
 use Rattle.firmware.specs.Calls.{returned, Seen}
-use Rattle.firmware.specs.Along.{Lent, recordsOf, roomy, seenAlong, lastImage, isAccepted, countOf, overSeen}
-use Rattle.firmware.specs.Along.{actionsSeen, ordersSeen, callsSeen, lossesSeen}
+use Rattle.firmware.specs.Along.{Lent, lentRecords, roomy, seenAlong, lastImage, isAccepted, countOf, overSeen}
+use Rattle.firmware.specs.Along.{actionsSeen, ordersSeen, callsSeen, lossesSeen, lentWith}
 use Rattle.firmware.specs.Along.{actionsPassing, releasesSeen, releasesToSeen, heldSeen, holdsSeen, waitsSeen}
 use Rattle.firmware.specs.Starts.{limitsOf, startedWith, firstImage}
 use Rattle.firmware.proofs.Following.{call-number, call-actions, map-follows, over-follows, image-after}
 use Rattle.firmware.proofs.Following.{done-returned, count-returned}
+use Rattle.firmware.proofs.Agreed.Meanings.{lentWith-means}
 use Rattle.firmware.proofs.Reading.{actionsPassing-counts, held-bytes, holds-bytes, waits-bytes}
 
 -- the actions that a call wrote, counted by their bytes
@@ -58,15 +59,15 @@ counted test acts buffer = actionsPassing-counts test acts (drop (actionSize * l
 
 -- the sums of what C sees are those of the steps
 module _ (s : State) (good : sound s ≡ true) (history : List Lent) (enough : roomy history ≡ true) where
-  actions-same : actionsSeen (recordsOf history) (seenAlong (imageA2 s) history) ≡ actions s (recordsOf history)
+  actions-same : actionsSeen (lentRecords history) (seenAlong (imageA2 s) history) ≡ actions s (lentRecords history)
   actions-same =
       over-follows (λ bytes x. countOf (x .number)) (λ s bytes o. length (o .actions))
       (λ s bytes buffer good enough. ap countOf (call-number s good bytes buffer enough) ∙ count-returned s bytes)
       s history good enough
 
   accepted-same : (test : List ℕ → Bool)
-      → overSeen (λ bytes x. one (test bytes && isAccepted (x .number))) (recordsOf history) (seenAlong (imageA2 s) history)
-      ≡ summed (acceptedAs (λ s. test)) s (recordsOf history)
+      → overSeen (λ bytes x. one (test bytes && isAccepted (x .number))) (lentRecords history) (seenAlong (imageA2 s) history)
+      ≡ summed (acceptedAs (λ s. test)) s (lentRecords history)
   accepted-same test =
       over-follows (λ bytes x. one (test bytes && isAccepted (x .number))) (acceptedAs (λ s. test))
       (λ s bytes buffer good enough.
@@ -75,8 +76,9 @@ module _ (s : State) (good : sound s ≡ true) (history : List Lent) (enough : r
       s history good enough
 
   sent-same : (test : ℕ → Partner → Bool)
-      → overSeen (λ bytes x. actionsPassing test (countOf (x .number)) (x .actions)) (recordsOf history) (seenAlong (imageA2 s) history)
-      ≡ summed (λ s bytes o. count (λ a. test (a .number) (a .partner)) (o .actions)) s (recordsOf history)
+      → overSeen (λ bytes x. actionsPassing test (countOf (x .number)) (x .actions))
+      (lentRecords history) (seenAlong (imageA2 s) history)
+      ≡ summed (λ s bytes o. count (λ a. test (a .number) (a .partner)) (o .actions)) s (lentRecords history)
   sent-same test =
       over-follows (λ bytes x. actionsPassing test (countOf (x .number)) (x .actions))
       (λ s bytes o. count (λ a. test (a .number) (a .partner)) (o .actions))
@@ -142,22 +144,22 @@ module _ (lowest highest tries : ℕ)
   pub image-follows :
       (lastImage (firstImage lowest highest tries room)
       (seenAlong (firstImage lowest highest tries room) history)
-      ≡ imageA2 (after (startedWith lowest highest tries) (recordsOf history)))
+      ≡ imageA2 (after (startedWith lowest highest tries) (lentRecords history)))
       × (readA2
       (lastImage (firstImage lowest highest tries room)
       (seenAlong (firstImage lowest highest tries room) history))
-      ≡ record { code = accepted; state = after (startedWith lowest highest tries) (recordsOf history) })
+      ≡ record { code = accepted; state = after (startedWith lowest highest tries) (lentRecords history) })
   image-follows =
       let s = startedWith lowest highest tries in
       let is = ap (λ image. lastImage image (seenAlong image history)) first-is ∙ image-after s history good enough in
-      (is, ap readA2 is ∙ readA2-written (after s (recordsOf history)) (after-sound s good (recordsOf history)))
+      (is, ap readA2 is ∙ readA2-written (after s (lentRecords history)) (after-sound s good (lentRecords history)))
 
   -- the numbers returned are those of the steps
   -- promise
   pub numbers-follow :
       map (λ (x : Seen). x .number) (seenAlong (firstImage lowest highest tries room) history)
       ≡ map (λ (o : Outcome). cond (eqb (o .code) 0) (pos (length (o .actions))) (negℤ (pos (o .code))))
-      (trace (startedWith lowest highest tries) (recordsOf history))
+      (trace (startedWith lowest highest tries) (lentRecords history))
   numbers-follow =
       ap (map (λ (x : Seen). x .number)) seen-is
       ∙ map-follows (λ (x : Seen). x .number) returned (λ s bytes buffer good enough. call-number s good bytes buffer enough)
@@ -172,7 +174,7 @@ module _ (lowest highest tries : ℕ)
       map (λ (x : Seen). take (5 * countOf (x .number)) (x .actions))
       (seenAlong (firstImage lowest highest tries room) history)
       ≡ map (λ (o : Outcome). actionBytes (o .actions))
-      (trace (startedWith lowest highest tries) (recordsOf history))
+      (trace (startedWith lowest highest tries) (lentRecords history))
   bytes-follow =
       ap (map (λ (x : Seen). take (5 * countOf (x .number)) (x .actions))) seen-is
       ∙ map-follows (λ (x : Seen). take (5 * countOf (x .number)) (x .actions)) (λ o. actionBytes (o .actions))
@@ -189,19 +191,19 @@ module _ (lowest highest tries : ℕ)
   -- what C counts are the sums over the steps
   -- promise
   pub sums-follow :
-      (actionsSeen (recordsOf history) (seenAlong (firstImage lowest highest tries room) history)
-      ≡ actions (startedWith lowest highest tries) (recordsOf history))
-      × (ordersSeen (recordsOf history) (seenAlong (firstImage lowest highest tries room) history)
-      ≡ orders (startedWith lowest highest tries) (recordsOf history))
-      × (callsSeen (recordsOf history) (seenAlong (firstImage lowest highest tries room) history)
-      ≡ calls (startedWith lowest highest tries) (recordsOf history))
-      × (lossesSeen (recordsOf history) (seenAlong (firstImage lowest highest tries room) history)
-      ≡ losses (startedWith lowest highest tries) (recordsOf history))
-      × (releasesSeen (recordsOf history) (seenAlong (firstImage lowest highest tries room) history)
-      ≡ releases (startedWith lowest highest tries) (recordsOf history))
+      (actionsSeen (lentRecords history) (seenAlong (firstImage lowest highest tries room) history)
+      ≡ actions (startedWith lowest highest tries) (lentRecords history))
+      × (ordersSeen (lentRecords history) (seenAlong (firstImage lowest highest tries room) history)
+      ≡ orders (startedWith lowest highest tries) (lentRecords history))
+      × (callsSeen (lentRecords history) (seenAlong (firstImage lowest highest tries room) history)
+      ≡ calls (startedWith lowest highest tries) (lentRecords history))
+      × (lossesSeen (lentRecords history) (seenAlong (firstImage lowest highest tries room) history)
+      ≡ losses (startedWith lowest highest tries) (lentRecords history))
+      × (releasesSeen (lentRecords history) (seenAlong (firstImage lowest highest tries room) history)
+      ≡ releases (startedWith lowest highest tries) (lentRecords history))
   sums-follow =
       let s = startedWith lowest highest tries in
-      let records = recordsOf history in (
+      let records = lentRecords history in (
         ap (actionsSeen records) seen-is ∙ actions-same s good history enough,
         ap (ordersSeen records) seen-is ∙ accepted-same s good history enough isOrder,
         ap (callsSeen records) seen-is ∙ accepted-same s good history enough isCall,
@@ -213,35 +215,35 @@ module _ (lowest highest tries : ℕ)
   -- loss", all counted from the numbers returned
   -- promise
   pub seen-bound :
-      actionsSeen (recordsOf history) (seenAlong (firstImage lowest highest tries room) history)
+      actionsSeen (lentRecords history) (seenAlong (firstImage lowest highest tries room) history)
       ≤ (3 * tries + 2)
-      * ordersSeen (recordsOf history) (seenAlong (firstImage lowest highest tries room) history)
-      + (tries + 2) * callsSeen (recordsOf history) (seenAlong (firstImage lowest highest tries room) history)
-      + tries * lossesSeen (recordsOf history) (seenAlong (firstImage lowest highest tries room) history)
+      * ordersSeen (lentRecords history) (seenAlong (firstImage lowest highest tries room) history)
+      + (tries + 2) * callsSeen (lentRecords history) (seenAlong (firstImage lowest highest tries room) history)
+      + tries * lossesSeen (lentRecords history) (seenAlong (firstImage lowest highest tries room) history)
   seen-bound =
       let same = sums-follow in
       same-bound tries (same .0) (same .1) (same .2) (same .3)
-      (bound (limitsOf lowest highest tries) accepted-start (recordsOf history))
+      (bound (limitsOf lowest highest tries) accepted-start (lentRecords history))
 
   -- "Partners taken in equal releases plus places held": the releases counted from the bytes of the buffers, the places from those of
   -- the last image
   -- promise
   pub seen-taken-in :
-      ordersSeen (recordsOf history) (seenAlong (firstImage lowest highest tries room) history)
-      + callsSeen (recordsOf history) (seenAlong (firstImage lowest highest tries room) history)
-      ≡ releasesSeen (recordsOf history) (seenAlong (firstImage lowest highest tries room) history)
+      ordersSeen (lentRecords history) (seenAlong (firstImage lowest highest tries room) history)
+      + callsSeen (lentRecords history) (seenAlong (firstImage lowest highest tries room) history)
+      ≡ releasesSeen (lentRecords history) (seenAlong (firstImage lowest highest tries room) history)
       + heldSeen
       (lastImage (firstImage lowest highest tries room)
       (seenAlong (firstImage lowest highest tries room) history))
   seen-taken-in =
       let same = sums-follow in
       let s = startedWith lowest highest tries in
-      let last = after s (recordsOf history) in
+      let last = after s (lentRecords history) in
       ap₂ _+_ (same .1) (same .2)
-      ∙ taken-in (limitsOf lowest highest tries) accepted-start (recordsOf history)
+      ∙ taken-in (limitsOf lowest highest tries) accepted-start (lentRecords history)
       ∙ sym
       (ap₂ _+_ (same .4)
-      (ap heldSeen (image-follows .0) ∙ held-bytes last (sound-facts last (after-sound s good (recordsOf history)) .four)))
+      (ap heldSeen (image-follows .0) ∙ held-bytes last (sound-facts last (after-sound s good (lentRecords history)) .four)))
 
 -- "and histories are shown that reach" the bounds: for every n from 1 to 9, X from 1 to 2, and any numbers of orders, calls and losses
 -- promise
@@ -253,11 +255,11 @@ pub seen-reached : (n a b c : ℕ)
     → 42 ≤ length room
     → (history : List Lent)
     → roomy history ≡ true
-    → recordsOf history ≡ reaching n a b c
-    → (actionsSeen (recordsOf history) (seenAlong (firstImage 1 2 n room) history) ≡ (3 * n + 2) * a + (n + 2) * b + n * c)
-    × (ordersSeen (recordsOf history) (seenAlong (firstImage 1 2 n room) history) ≡ a)
-    × (callsSeen (recordsOf history) (seenAlong (firstImage 1 2 n room) history) ≡ b)
-    × (lossesSeen (recordsOf history) (seenAlong (firstImage 1 2 n room) history) ≡ c)
+    → lentRecords history ≡ reaching n a b c
+    → (actionsSeen (lentRecords history) (seenAlong (firstImage 1 2 n room) history) ≡ (3 * n + 2) * a + (n + 2) * b + n * c)
+    × (ordersSeen (lentRecords history) (seenAlong (firstImage 1 2 n room) history) ≡ a)
+    × (callsSeen (lentRecords history) (seenAlong (firstImage 1 2 n room) history) ≡ b)
+    × (lossesSeen (lentRecords history) (seenAlong (firstImage 1 2 n room) history) ≡ c)
 unfolding sumsOf
 seen-reached n a b c some-try most h room long history enough is =
     let same = sums-follow 1 2 n (omega arith, omega arith, some-try, most) room long history enough in
@@ -268,6 +270,37 @@ seen-reached n a b c some-try most h room long history enough is =
       same .3 ∙ ap (losses (startedWith 1 2 n)) is ∙ ap (λ (x : Sums). x .losses) sums,
     )
 
+-- the same of calls that are there: the records that reach the bounds, each lent with a buffer of 20 zeros, from the image that a cold
+-- start wrote over 42 zeros
+-- promise
+pub seen-reached-lent : (n a b c : ℕ)
+    → 1 ≤ n
+    → n ≤ 9
+    → (c ≡ 0) ⊎ (0 < a + b)
+    → (actionsSeen (reaching n a b c)
+    (seenAlong (firstImage 1 2 n (replicate 42 0)) (lentWith (replicate 20 0) (reaching n a b c)))
+    ≡ (3 * n + 2) * a + (n + 2) * b + n * c)
+    × (ordersSeen (reaching n a b c)
+    (seenAlong (firstImage 1 2 n (replicate 42 0)) (lentWith (replicate 20 0) (reaching n a b c)))
+    ≡ a)
+    × (callsSeen (reaching n a b c)
+    (seenAlong (firstImage 1 2 n (replicate 42 0)) (lentWith (replicate 20 0) (reaching n a b c)))
+    ≡ b)
+    × (lossesSeen (reaching n a b c)
+    (seenAlong (firstImage 1 2 n (replicate 42 0)) (lentWith (replicate 20 0) (reaching n a b c)))
+    ≡ c)
+seen-reached-lent n a b c some-try most h =
+    let history = lentWith (replicate 20 0) (reaching n a b c) in
+    let means = lentWith-means (replicate 20 0) (reaching n a b c) in
+    let seen = seenAlong (firstImage 1 2 n (replicate 42 0)) history in
+    let own = means .0 in
+    let sums = seen-reached n a b c some-try most h (replicate 42 0) (omega arith) history (means .1 (omega arith)) own in (
+      ap (λ records. actionsSeen records seen) (sym own) ∙ sums .0,
+      ap (λ records. ordersSeen records seen) (sym own) ∙ sums .1,
+      ap (λ records. callsSeen records seen) (sym own) ∙ sums .2,
+      ap (λ records. lossesSeen records seen) (sym own) ∙ sums .3,
+    )
+
 -- "A partner that waits (any phase but Open) and is from then on named by nothing but timeouts holds no place after its" n-th one, n
 -- being the number in the image, "whatever comes for others in between": of every image that reads, as those after a history do
 module _ (image : List ℕ)
@@ -276,8 +309,8 @@ module _ (image : List ℕ)
     (waits-now : 1 ≤ waitsSeen p image)
     (history : List Lent)
     (enough : roomy history ≡ true)
-    (quiet : silent p (readA2 image .state) (recordsOf history) ≡ true)
-    (timed-out : byte image 37 ≤ timeouts p (recordsOf history)) where
+    (quiet : silent p (readA2 image .state) (lentRecords history) ≡ true)
+    (timed-out : byte image 37 ≤ timeouts p (lentRecords history)) where
   image-good : sound (readA2 image .state) ≡ true
   image-good = writtenA2-read image read .0
 
@@ -290,7 +323,7 @@ module _ (image : List ℕ)
   waits-then : waits p (readA2 image .state .places) ≡ true
   waits-then = waits-bytes (readA2 image .state) four p .0 (subst (λ b. 1 ≤ waitsSeen p b) (sym own) waits-now)
 
-  many : timeoutsToRelease (readA2 image .state .limits .tries) ≤ timeouts p (recordsOf history)
+  many : timeoutsToRelease (readA2 image .state .limits .tries) ≤ timeouts p (lentRecords history)
   many =
       let in-image = imageA2-tries (readA2 image .state) four in
       let here = ap (λ b. byte b 37) own in
@@ -299,16 +332,16 @@ module _ (image : List ℕ)
   -- promise
   pub seen-waiting : holdsSeen p (lastImage image (seenAlong image history)) ≡ 0
   seen-waiting =
-      let last = after (readA2 image .state) (recordsOf history) in
+      let last = after (readA2 image .state) (lentRecords history) in
       ap (holdsSeen p)
       (ap (λ b. lastImage b (seenAlong b history)) (sym own) ∙ image-after (readA2 image .state) history image-good enough)
-      ∙ holds-bytes last (sound-facts last (after-sound (readA2 image .state) image-good (recordsOf history)) .four) p .1
-      (waiting (readA2 image .state) image-good p waits-then (recordsOf history) quiet many)
+      ∙ holds-bytes last (sound-facts last (after-sound (readA2 image .state) image-good (lentRecords history)) .four) p .1
+      (waiting (readA2 image .state) image-good p waits-then (lentRecords history) quiet many)
 
   -- and it was released once, by an action 22 to it in the bytes of a buffer
   -- promise
-  pub seen-released-once : releasesToSeen p (recordsOf history) (seenAlong image history) ≡ 1
+  pub seen-released-once : releasesToSeen p (lentRecords history) (seenAlong image history) ≡ 1
   seen-released-once =
-      ap (λ b. releasesToSeen p (recordsOf history) (seenAlong b history)) (sym own)
+      ap (λ b. releasesToSeen p (lentRecords history) (seenAlong b history)) (sym own)
       ∙ sent-same (readA2 image .state) image-good history enough (λ number q. eqb number release && samePartner p q)
-      ∙ released-once (readA2 image .state) image-good p waits-then (recordsOf history) quiet many
+      ∙ released-once (readA2 image .state) image-good p waits-then (lentRecords history) quiet many

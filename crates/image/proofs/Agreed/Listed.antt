@@ -15,7 +15,7 @@ use Rattle.wire.specs.Refusals.{accepted}
 use Rattle.wire.proofs.Tests.{and-left, and-right, and-both, true-false, cond-holds}
 use Rattle.wire.proofs.Padded.{padded-take}
 use Rattle.image.specs.Images.{sameBytes, readA2, imageA2, wholeBytes, bodyBytes, stateIn}
-use Rattle.image.specs.Rescue.{mended, fields, mostFields, part, changed, listing, told, spoilt, left}
+use Rattle.image.specs.Rescue.{mended, fieldOffsets, mostFields, part, changed, listing, told, spoilt, left}
 use Rattle.image.specs.Rescue.{rescue, rescued, isIn, ascends}
 use Rattle.image.specs.declared.rescue.Rescued.{Rescued}
 use Rattle.image.proofs.Bytes.{same-bytes, bytes-same, imageA2-length}
@@ -33,15 +33,15 @@ changed-none (at ∷ fs) image =
     ap (λ b. cond b (changed fs image image) (at ∷ changed fs image image)) (same-bytes (part at image)) ∙ changed-none fs image
 
 -- the list is that of the fields in which the image differs from what is left
-pub told-changed : (image : List ℕ) → told (rescue image) ≡ changed fields image (rescued image)
+pub told-changed : (image : List ℕ) → told (rescue image) ≡ changed fieldOffsets image (rescued image)
 unfolding rescue rescued
 told-changed image = by (spoilt image)
   where
     by : (b : Bool)
-        → told (cond b (listing accepted (changed fields image (left image))) (listing (readA2 image .code) []))
-        ≡ changed fields image (cond b (left image) image)
-    by true = padded-take mostFields 0 (changed fields image (left image)) (changed-few image (left image) fields)
-    by false = sym (changed-none fields image)
+        → told (cond b (listing accepted (changed fieldOffsets image (left image))) (listing (readA2 image .code) []))
+        ≡ changed fieldOffsets image (cond b (left image) image)
+    by true = padded-take mostFields 0 (changed fieldOffsets image (left image)) (changed-few image (left image) fieldOffsets)
+    by false = sym (changed-none fieldOffsets image)
 
 -- a field is in the list where its bytes differ
 in-cond : (at f : ℕ) (l : List ℕ) (b : Bool) → isIn at (cond b l (f ∷ l)) ≡ cond b (isIn at l) (eqb at f || isIn at l)
@@ -72,19 +72,19 @@ in-changed at (f ∷ fs) old new =
     (λ is. ap (λ k. sameBytes (part k old) (part k new)) (sym (eqb-true at f is)))
 
 module _ (image : List ℕ) (at : ℕ) where
-  listed : isIn at (told (rescue image)) ≡ (isIn at fields && not (sameBytes (part at image) (part at (rescued image))))
-  listed = ap (isIn at) (told-changed image) ∙ in-changed at fields image (rescued image)
+  listed : isIn at (told (rescue image)) ≡ (isIn at fieldOffsets && not (sameBytes (part at image) (part at (rescued image))))
+  listed = ap (isIn at) (told-changed image) ∙ in-changed at fieldOffsets image (rescued image)
 
   -- what is listed is a field
-  pub listed-field : isIn at (told (rescue image)) ≡ true → isIn at fields ≡ true
-  listed-field is = and-left (isIn at fields) (not (sameBytes (part at image) (part at (rescued image)))) (sym listed ∙ is)
+  pub listed-field : isIn at (told (rescue image)) ≡ true → isIn at fieldOffsets ≡ true
+  listed-field is = and-left (isIn at fieldOffsets) (not (sameBytes (part at image) (part at (rescued image)))) (sym listed ∙ is)
 
-  module _ (field : isIn at fields ≡ true) where
+  module _ (field : isIn at fieldOffsets ≡ true) where
     -- a field is listed exactly where its bytes changed
     pub listed-changed : (isIn at (told (rescue image)) ≡ true) ↔ (part at (rescued image) ≡ part at image → ⊥)
     listed-changed = (
       (λ is unchanged.
-          let other = and-right (isIn at fields) (not (sameBytes (part at image) (part at (rescued image)))) (sym listed ∙ is) in
+          let other = and-right (isIn at fieldOffsets) (not (sameBytes (part at image) (part at (rescued image)))) (sym listed ∙ is) in
           let equal = ap (sameBytes (part at image)) unchanged ∙ same-bytes (part at image) in
           true-false (not (sameBytes (part at image) (part at (rescued image)))) other (ap not equal)),
       (λ other. by (sameBytes (part at image) (part at (rescued image))) refl other),
@@ -95,7 +95,7 @@ module _ (image : List ℕ) (at : ℕ) where
             → (part at (rescued image) ≡ part at image → ⊥)
             → isIn at (told (rescue image)) ≡ true
         by true equal other = absurd (other (sym (bytes-same (part at image) (part at (rescued image)) equal)))
-        by false differ other = listed ∙ and-both (isIn at fields) _ field (ap not differ)
+        by false differ other = listed ∙ and-both (isIn at fieldOffsets) _ field (ap not differ)
 
     -- and its bytes are as they were where it is not
     pub unlisted-same : isIn at (told (rescue image)) ≡ false → part at (rescued image) ≡ part at image
@@ -104,7 +104,7 @@ module _ (image : List ℕ) (at : ℕ) where
         by : (b : Bool) → sameBytes (part at image) (part at (rescued image)) ≡ b → part at (rescued image) ≡ part at image
         by true equal = sym (bytes-same (part at image) (part at (rescued image)) equal)
         by false differ =
-            true-false (isIn at (told (rescue image))) (listed ∙ and-both (isIn at fields) _ field (ap not differ)) not-in
+            true-false (isIn at (told (rescue image))) (listed ∙ and-both (isIn at fieldOffsets) _ field (ap not differ)) not-in
 
 -- "ascending"
 ascends-more : (from to : ℕ) (l : List ℕ) → from ≤ to → ascends to l ≡ true → ascends from l ≡ true
@@ -129,7 +129,7 @@ changed-ascends from (f ∷ fs) old new up =
 pub listed-ascends : (image : List ℕ) → ascends 0 (told (rescue image)) ≡ true
 unfolding ascends
 listed-ascends image =
-    ap (ascends 0) (told-changed image) ∙ changed-ascends 0 fields image (rescued image) refl
+    ap (ascends 0) (told-changed image) ∙ changed-ascends 0 fieldOffsets image (rescued image) refl
 
 -- what holds of an accepted rescue and of one that changes nothing holds of every one
 by-code : (P : List ℕ → Type 0) (image : List ℕ)
@@ -183,7 +183,7 @@ rescued-outside image =
 module _ (image : List ℕ) where
   -- a field of the list, by its number
   field-listed : (at : ℕ)
-      → isIn at fields ≡ true
+      → isIn at fieldOffsets ≡ true
       → ((isIn at (told (rescue image)) ≡ true) ↔ (part at (rescued image) ≡ part at image → ⊥))
       × (isIn at (told (rescue image)) ≡ false → part at (rescued image) ≡ part at image)
   field-listed at field = (listed-changed image at field, unlisted-same image at field)
@@ -239,11 +239,11 @@ module _ (image : List ℕ) where
   listed-numbers at is = listed-field image at is
 
   abbrev Answer : Bool → Rescued
-  Answer b = cond b (listing accepted (changed fields image (left image))) (listing (readA2 image .code) [])
+  Answer b = cond b (listing accepted (changed fieldOffsets image (left image))) (listing (readA2 image .code) [])
 
-  padded : take (length (changed fields image (left image))) (listing accepted (changed fields image (left image)) .fields)
-      ≡ changed fields image (left image)
-  padded = padded-take mostFields 0 (changed fields image (left image)) (changed-few image (left image) fields)
+  padded : take (length (changed fieldOffsets image (left image))) (listing accepted (changed fieldOffsets image (left image)) .fields)
+      ≡ changed fieldOffsets image (left image)
+  padded = padded-take mostFields 0 (changed fieldOffsets image (left image)) (changed-few image (left image) fieldOffsets)
 
   -- the count is how many are listed
   -- promise

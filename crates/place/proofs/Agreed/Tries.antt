@@ -15,12 +15,12 @@ use Rattle.place.specs.declared.limits.Limits.{Limits}
 use Rattle.place.specs.declared.turn.Turn.{Turn}
 use Rattle.place.specs.declared.turn.Turn.the-variants.{Released, Sends}
 use Rattle.place.proofs.ByRow.{by-row, judged-case}
-use Rattle.place.specs.Turns.{onNext, fresh}
+use Rattle.place.specs.Turns.{onNext, afresh}
 
 abbrev NextFresh : Phase → Turn → Type 0
-NextFresh ph = onNext (λ q. fresh ph q ≡ true)
+NextFresh ph = onNext (λ q. afresh ph q ≡ true)
 
-again-fresh : (l : Limits) (number : ℕ) (ph : Phase) → fresh ph (oneMore ph) ≡ true → NextFresh ph (again l number ph)
+again-fresh : (l : Limits) (number : ℕ) (ph : Phase) → afresh ph (oneMore ph) ≡ true → NextFresh ph (again l number ph)
 again-fresh l number ph h = cond-holds (NextFresh ph) (ltb (tries ph) (l .tries)) (Sends number (oneMore ph)) Released h tt
 
 row-fresh : (l : Limits) (ph : Phase) (v : ℕ) → All (λ c. NextFresh ph (play l ph v c)) (table ph)
@@ -47,5 +47,5 @@ row-fresh l (Ending t) v =
 
 -- no turn carries the old phase's tries into another phase
 -- promise
-pub turn-fresh : (l : Limits) (ph : Phase) (e : PartnerEvent) → onNext (λ q. fresh ph q ≡ true) (turn l ph e)
+pub turn-fresh : (l : Limits) (ph : Phase) (e : PartnerEvent) → onNext (λ q. afresh ph q ≡ true) (turn l ph e)
 turn-fresh l = by-row NextFresh l (row-fresh l) (λ ph. tt)

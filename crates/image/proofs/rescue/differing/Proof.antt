@@ -7,14 +7,14 @@ use denote.Ref.{now}
 use lib.ListN.{take}
 use lib.Seq.{length-take-le}
 use Rattle.wire.specs.Refusals.{accepted}
-use Rattle.image.specs.Rescue.{fields, changed, listing}
+use Rattle.image.specs.Rescue.{fieldOffsets, changed, listing}
 use Rattle.image.specs.declared.rescue.Rescued.{Rescued}
 use Rattle.image.proofs.Rescuing.{changed-more, changed-few, field-fits}
 use Rattle.image.proofs.rescue.differing.Statement.{statement}
 use Rattle.image.proofs.rescue.differing.Tie as tie
 
 abbrev Inv-loop : tie.InvT-loop
-Inv-loop old new firsts answer₀ i₀ answer i = (i ≤ 11) × (answer ≡ listing accepted (changed (take i fields) old new))
+Inv-loop old new firsts answer₀ i₀ answer i = (i ≤ 11) × (answer ≡ listing accepted (changed (take i fieldOffsets) old new))
 
 abbrev μ-loop : tie.MeasureT-loop
 μ-loop old new firsts answer₀ i₀ answer i = 11 - i
@@ -29,8 +29,8 @@ note-requires c κs =
     let passed = at .loop in
     let start = at .before .before .before .before in
     let counted = ap (λ (r : Rescued). r .count) (passed .inv .1) in
-    let few = changed-few (now (start .args .old)) (now (start .args .new)) (take (passed .i) fields) in
-    let shorter = length-take-le (passed .i) fields (passed .inv .0) in
+    let few = changed-few (now (start .args .old)) (now (start .args .new)) (take (passed .i) fieldOffsets) in
+    let shorter = length-take-le (passed .i) fieldOffsets (passed .inv .0) in
     (omega (arith, counted, few, shorter), (start .pre .0, (start .pre .1, field-fits (passed .i))))
 
 loop-again : tie.Need-loop-again Inv-loop μ-loop
@@ -40,8 +40,8 @@ loop-again c =
     let old = now (start .args .old) in
     let new = now (start .args .new) in (
       omega arith,
-      c .note .ensures (changed (take (passed .i) fields) old new) (passed .inv .1)
-          ∙ ap (listing accepted) (changed-more old new fields (passed .i) (c .before .loop-test .taken)),
+      c .note .ensures (changed (take (passed .i) fieldOffsets) old new) (passed .inv .1)
+          ∙ ap (listing accepted) (changed-more old new fieldOffsets (passed .i) (c .before .loop-test .taken)),
     )
 
 returns : tie.Need-returns Inv-loop μ-loop
@@ -50,7 +50,7 @@ returns c =
     let passed = at .loop in
     let start = at .before .before .before .before in
     let all : passed .i ≡ 11 = omega arith in
-    passed .inv .1 ∙ ap (λ k. listing accepted (changed (take k fields) (now (start .args .old)) (now (start .args .new)))) all
+    passed .inv .1 ∙ ap (λ k. listing accepted (changed (take k fieldOffsets) (now (start .args .old)) (now (start .args .new)))) all
 
 pub differing-spec : {M : Type 1} → statement M
 differing-spec =

@@ -7,7 +7,7 @@ use lib.ListN.{drop, replicate}
 use Rattle.wire.specs.Refusals.{accepted}
 use Rattle.unit.specs.States.{sound}
 use Rattle.image.specs.Images.{imageA2}
-use Rattle.image.specs.Rescue.{mended, fields, changed, listing}
+use Rattle.image.specs.Rescue.{mended, fieldOffsets, changed, listing}
 use Rattle.image.proofs.Taking.{part-all}
 use Rattle.image.proofs.Mending.{mended-sound}
 use Rattle.image.proofs.Rescuing.{image-whole}
@@ -46,7 +46,7 @@ returns c =
     let beside = c .before .before .before .before .before .before .before .before .put-image in
     let fresh = beside .ensures ∙ image-whole (left .result) (replicate 42 0) refl ∙ ap imageA2 state in
     let stored = c .before .before .put-image2 .ensures ∙ image-whole (left .result) image (start .pre .0) ∙ ap imageA2 state in
-    (c .before .before .before .before .differing .ensures ∙ ap (λ new. listing accepted (changed fields image new)) fresh, stored)
+    (c .before .before .before .before .differing .ensures ∙ ap (λ new. listing accepted (changed fieldOffsets image new)) fresh, stored)
 
 pub mend-spec : {M : Type 1} → statement M
 mend-spec =
