@@ -300,10 +300,13 @@ size_t gen_record_last(Rng *g, const State *s, bool framed, uint8_t *r)
         return order_record(g, s, last_number(g), r);
     if (d < 9)                              /* an order to an RIU with such a number */
         return order_record(g, s, 0x01000000u | last_number(g), r);
-    if (d < 10)                             /* a near miss */
-        return order_record(g, s, last_number(g) ^ 1u << rng_below(g, 14), r);
+    if (d < 10) {                           /* a near miss; one draw a statement: the same in every compiler */
+        const uint32_t number = last_number(g);
+        return order_record(g, s, number ^ 1u << rng_below(g, 14), r);
+    }
     r[0] = (uint8_t[]){EV_ORDER, EV_DROP, EV_UP, EV_LOST, EV_TIMEOUT, EV_MESSAGE, EV_MESSAGE}[rng_below(g, 7)];
-    const size_t n = fill(g, r, (rng_below(g, 3) == 0 ? 0x01000000u : 0) | last_number(g));
+    const uint32_t type = rng_below(g, 3) == 0 ? 0x01000000u : 0;
+    const size_t n = fill(g, r, type | last_number(g));
     if (rng_below(g, 8) == 0)
         spoil(g, r);
     return n;

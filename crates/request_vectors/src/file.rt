@@ -1,0 +1,157 @@
+// A file of vectors, one after the other: each is the length of its body in two bytes, high byte first, and the body.
+ghost use mathlib.Core.Path.{_≡_};
+ghost use lib.ListN.{length};
+use crate::judging::judging_holds;
+use crate::making::making_holds;
+use crate::part::short_at;
+use libc::STDOUT_FILENO;
+use std::num::wrapping_add_u64;
+use wire::byte::byte_at;
+
+// The room for a vector.
+const LONGEST: usize = 8192;
+
+// The operations: a sheet judged, a sheet made.
+const JUDGE: u8 = 1;
+
+const PRODUCE: u8 = 2;
+
+// The count so far: the vectors tried and those that differ; and whether the file may hold more.
+struct Progress {
+    tried: u64,
+    differ: u64,
+    more: bool,
+}
+
+fn say(words: &[u8]) {
+    io::write_all(STDOUT_FILENO, words);
+}
+
+fn number(n: u64) {
+    io::print_decimal(STDOUT_FILENO, n);
+}
+
+// 1 where a test passes.
+fn one(test: bool) -> u64 {
+    if test { 1 } else { 0 }
+}
+
+// Whether the vector holds; one of no operation does not.
+fn holds(v: &[u8]) -> bool {
+    match byte_at(v, 0) {
+        JUDGE => judging_holds(v),
+        PRODUCE => making_holds(v),
+        _ => false,
+    }
+}
+
+// Names a vector that differs by its number in the file, from 0.
+fn tell(holds: bool, ordinal: u64) {
+    if holds {
+        return;
+    }
+    say(b"differs: vector ");
+    number(ordinal);
+    say(b"\n");
+}
+
+impl Progress {
+    fn none() -> Progress {
+        Progress {
+            tried: 0,
+            differ: 0,
+            more: true,
+        }
+    }
+
+    // The file holds no further vector; what is cut off counts as one that differs.
+    fn ended(self, whole: bool) -> Progress {
+        Progress {
+            tried: self.tried,
+            differ: wrapping_add_u64(self.differ, one(!whole)),
+            more: false,
+        }
+    }
+
+    // One more vector.
+    fn add(self, v: &[u8]) -> Progress {
+        let good = holds(v);
+        tell(good, self.tried);
+        Progress {
+            tried: wrapping_add_u64(self.tried, 1),
+            differ: wrapping_add_u64(self.differ, one(!good)),
+            more: true,
+        }
+    }
+
+    // Reads a vector that fills this room.
+    fn read(self, fd: i32, body: &mut [u8]) -> Progress {
+        let got = io::read_full(fd, body);
+        if got < body.len() {
+            return self.ended(false);
+        }
+        self.add(body)
+    }
+
+    // Reads and tries the next vector, if there is one.
+    fn next(self, fd: i32) -> Progress {
+        let mut head = [0u8; 2];
+        let got = io::read_full(fd, &mut head);
+        if got == 0 {
+            return self.ended(true);
+        }
+        if got == 1 {
+            return self.ended(false);
+        }
+        let length = short_at(&head, 0);
+        if length > LONGEST {
+            return self.ended(false);
+        }
+        let mut body = longest_vector();
+        self.read(fd, &mut body[0..length])
+    }
+
+    fn write(self) {
+        number(self.tried);
+        say(b" vectors, ");
+        number(self.differ);
+        say(b" differ\n");
+    }
+}
+
+// Room for the longest vector. The `ensures` gives only the length.
+fn longest_vector() -> [u8; 8192]
+    ensures { λ r. ⌜ 8192 ≡ length r ⌝ }
+{
+    [0; 8192]
+}
+
+// A proved loop has to end, and nothing says that a file does: the turns are counted down from a number that no run uses up.
+fn read_all(fd: i32) -> Progress {
+    let mut progress = Progress::none();
+    let mut turns = u64::MAX;
+    loop {
+        if turns == 0 {
+            break progress;
+        }
+        progress = progress.next(fd);
+        if progress.more {
+            turns -= 1;
+        } else {
+            break progress;
+        }
+    }
+}
+
+// Tries all vectors of a file, names those that differ, and writes how many there are.
+pub(crate) fn try_file(name: &[u8]) {
+    say(name);
+    say(b"\n");
+    let fd = os::open_read(name);
+    if fd < 0 {
+        os::fail(name);
+        return;
+    }
+    read_all(fd).write();
+    libc::close(fd);
+}

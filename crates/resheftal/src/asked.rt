@@ -1,0 +1,265 @@
+// What the words behind a command ask for: a file, options and their values.
+use place::limits::FLEET_TRIES;
+use place::limits::Limits;
+use tools::started::FLEET_HIGHEST;
+use tools::started::FLEET_LOWEST;
+use wire::byte::byte_at;
+use wire::byte::word;
+
+// What the next word is: an option or a file, or a value of the option before it.
+const ANY: u8 = 0;
+
+const LOWEST: u8 = 1;
+
+const HIGHEST: u8 = 2;
+
+const TRIES: u8 = 3;
+
+const OUTPUT: u8 = 4;
+
+// What is wrong with the words.
+pub(crate) const NOTHING: u8 = 0;
+
+pub(crate) const UNKNOWN: u8 = 1;
+
+pub(crate) const SECOND_FILE: u8 = 2;
+
+pub(crate) const NO_NUMBER: u8 = 3;
+
+pub(crate) const NO_VALUE: u8 = 4;
+
+pub(crate) const WORD_TOO_LONG: u8 = 5;
+
+pub(crate) const NO_FILE: u8 = 6;
+
+pub(crate) const NO_OUTPUT: u8 = 7;
+
+// What is asked for: whether a sheet is made; the numbers of the words that name the file and the output, 0 where none does; what the box
+// is started with; whether help is asked for; what is wrong, and the word that was reached; and what the next word is.
+pub(crate) struct Asked {
+    pub(crate) makes: bool,
+    pub(crate) file: usize,
+    pub(crate) output: usize,
+    pub(crate) limits: Limits,
+    pub(crate) help: bool,
+    pub(crate) wrong: u8,
+    pub(crate) at: usize,
+    next: u8,
+}
+
+// A number of decimal digits, or that a word is none.
+enum Number {
+    Is(u8),
+    No,
+}
+
+// Whether two words are the same.
+pub(crate) fn same(a: &[u8], b: &[u8]) -> bool {
+    if a.len() != b.len() {
+        return false;
+    }
+    let mut i = 0;
+    loop {
+        if i >= a.len() {
+            break true;
+        }
+        if byte_at(a, i) != byte_at(b, i) {
+            break false;
+        }
+        i += 1;
+    }
+}
+
+fn digit_of(b: u8) -> Number {
+    if b < b'0' {
+        return Number::No;
+    }
+    if b > b'9' {
+        return Number::No;
+    }
+    Number::Is(b - b'0')
+}
+
+// A number with one more digit; over 255 it is 255, which no box starts with.
+fn longer(n: u8, digit: u8) -> u8 {
+    let next = word(n) * 10 + word(digit);
+    if next > 255 { 255 } else { next as u8 }
+}
+
+fn number_of(text: &[u8]) -> Number {
+    if text.len() == 0 {
+        return Number::No;
+    }
+    let mut n = 0;
+    let mut i = 0;
+    loop {
+        if i >= text.len() {
+            break Number::Is(n);
+        }
+        match digit_of(byte_at(text, i)) {
+            Number::Is(digit) => {
+                n = longer(n, digit);
+                i += 1;
+            }
+            Number::No => {
+                break Number::No;
+            }
+        }
+    }
+}
+
+// Whether a word is an option: a dash and more. A dash alone is standard input or output.
+fn is_option(text: &[u8]) -> bool {
+    if text.len() < 2 {
+        return false;
+    }
+    byte_at(text, 0) == b'-'
+}
+
+impl Asked {
+    // Nothing yet, of a command that makes a sheet or not.
+    fn nothing(makes: bool) -> Asked {
+        Asked {
+            makes,
+            file: 0,
+            output: 0,
+            limits: Limits {
+                lowest: FLEET_LOWEST,
+                highest: FLEET_HIGHEST,
+                tries: FLEET_TRIES,
+            },
+            help: false,
+            wrong: NOTHING,
+            at: 0,
+            next: ANY,
+        }
+    }
+
+    fn but(mut self, wrong: u8) -> Asked {
+        self.wrong = wrong;
+        self
+    }
+
+    fn awaiting(mut self, next: u8) -> Asked {
+        self.next = next;
+        self
+    }
+
+    fn with_help(mut self) -> Asked {
+        self.help = true;
+        self
+    }
+
+    fn with_file(mut self) -> Asked {
+        if self.file > 0 {
+            return self.but(SECOND_FILE);
+        }
+        self.file = self.at;
+        self
+    }
+
+    fn with_output(mut self) -> Asked {
+        if self.output > 0 {
+            return self.but(SECOND_FILE);
+        }
+        self.output = self.at;
+        self.next = ANY;
+        self
+    }
+
+    fn with_number(mut self, n: u8) -> Asked {
+        if self.next == LOWEST {
+            self.limits.lowest = n;
+            self.next = HIGHEST;
+            return self;
+        }
+        if self.next == HIGHEST {
+            self.limits.highest = n;
+            self.next = ANY;
+            return self;
+        }
+        self.limits.tries = n;
+        self.next = ANY;
+        self
+    }
+
+    // With an option or a file.
+    fn with_any(self, text: &[u8]) -> Asked {
+        if same(text, b"--help") {
+            return self.with_help();
+        }
+        if same(text, b"--x") {
+            return self.awaiting(LOWEST);
+        }
+        if same(text, b"--tries") {
+            return self.awaiting(TRIES);
+        }
+        if self.makes {
+            if same(text, b"-o") {
+                return self.awaiting(OUTPUT);
+            }
+        }
+        if is_option(text) {
+            return self.but(UNKNOWN);
+        }
+        self.with_file()
+    }
+
+    fn with_text(self, text: &[u8]) -> Asked {
+        if self.next == ANY {
+            return self.with_any(text);
+        }
+        if self.next == OUTPUT {
+            return self.with_output();
+        }
+        match number_of(text) {
+            Number::Is(n) => self.with_number(n),
+            Number::No => self.but(NO_NUMBER),
+        }
+    }
+
+    // With the word of this number; none once something is wrong.
+    fn with_word(mut self, at: usize) -> Asked {
+        if self.wrong != NOTHING {
+            return self;
+        }
+        self.at = at;
+        let mut room = io::buffer();
+        let n = os::arg(at, &mut room);
+        if os::errno() != 0 {
+            return self.but(WORD_TOO_LONG);
+        }
+        self.with_text(&room[..n])
+    }
+
+    // When all words are read: what is missing is wrong.
+    fn whole(self) -> Asked {
+        if self.wrong != NOTHING {
+            return self;
+        }
+        if self.next != ANY {
+            return self.but(NO_VALUE);
+        }
+        if self.file == 0 {
+            return self.but(NO_FILE);
+        }
+        if self.makes {
+            if self.output == 0 {
+                return self.but(NO_OUTPUT);
+            }
+        }
+        self
+    }
+}
+
+// What the words behind the command ask for, which makes a sheet or not.
+pub(crate) fn read_words(makes: bool) -> Asked {
+    let count = os::arg_count();
+    let mut so_far = Asked::nothing(makes);
+    let mut i = 2;
+    while i < count {
+        so_far = so_far.with_word(i);
+        i += 1;
+    }
+    so_far.whole()
+}

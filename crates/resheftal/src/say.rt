@@ -1,0 +1,82 @@
+// What is said on standard output and standard error, and the status after it.
+use crate::asked::NO_FILE;
+use crate::asked::NO_NUMBER;
+use crate::asked::NO_OUTPUT;
+use crate::asked::NO_VALUE;
+use crate::asked::SECOND_FILE;
+use crate::asked::UNKNOWN;
+use crate::asked::WORD_TOO_LONG;
+use crate::files::front;
+use crate::files::written;
+use libc::STDERR_FILENO;
+use libc::STDOUT_FILENO;
+use tools::help::Topic;
+use tools::help::help_text;
+use tools::help::version_text;
+
+// The statuses: accepted or made; another answer; wrong use, or something that cannot be read or written.
+pub(crate) const DONE: u8 = b'0';
+
+pub(crate) const ANOTHER: u8 = b'1';
+
+pub(crate) const FAILED: u8 = b'2';
+
+// Whether bytes are written to standard output; that they are not is told.
+pub(crate) fn is_said(bytes: &[u8]) -> bool {
+    written(STDOUT_FILENO, b"standard output", bytes)
+}
+
+// The status after a text on standard output.
+pub(crate) fn said(text: &[u8], status: u8) -> u8 {
+    if is_said(text) { status } else { FAILED }
+}
+
+// Words on standard error.
+pub(crate) fn complain(words: &[u8]) {
+    io::write_all(STDERR_FILENO, words);
+}
+
+pub(crate) fn help(topic: Topic) -> u8 {
+    let mut out = io::buffer();
+    let n = help_text(topic, &mut out);
+    said(front(&out, n), DONE)
+}
+
+// No word at all: how the commands are used, on standard error.
+pub(crate) fn no_words() -> u8 {
+    let mut out = io::buffer();
+    let n = help_text(Topic::Commands, &mut out);
+    complain(front(&out, n));
+    FAILED
+}
+
+pub(crate) fn version() -> u8 {
+    let mut out = io::buffer();
+    let n = version_text(&mut out);
+    said(front(&out, n), DONE)
+}
+
+// Words on standard error, and then the word of this number.
+fn complain_of(words: &[u8], at: usize) {
+    let mut word = io::buffer();
+    let n = os::arg(at, &mut word);
+    complain(words);
+    complain(&word[..n]);
+}
+
+// Wrong use: what is wrong, and at which word.
+pub(crate) fn misused(wrong: u8, at: usize) -> u8 {
+    complain(b"resheftal: ");
+    match wrong {
+        UNKNOWN => complain_of(b"no such command or option: ", at),
+        SECOND_FILE => complain_of(b"one file too many: ", at),
+        NO_NUMBER => complain_of(b"not a number: ", at),
+        NO_VALUE => complain_of(b"something is missing behind ", at),
+        WORD_TOO_LONG => complain(b"a word is too long"),
+        NO_FILE => complain(b"no file is named"),
+        NO_OUTPUT => complain(b"produce needs -o SHEET"),
+        _ => complain(b"wrong use"),
+    }
+    complain(b" (resheftal --help says how it is used)\n");
+    FAILED
+}

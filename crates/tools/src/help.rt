@@ -1,0 +1,68 @@
+// How `resheftal` is used.
+use crate::text::put;
+
+// What help is asked for: all commands, or one.
+pub enum Topic {
+    Commands,
+    Judge,
+    Produce,
+}
+
+fn put_judge(out: &mut [u8], at: usize) -> usize {
+    put(
+        out,
+        at,
+        b"resheftal judge SHEET [--x LOWEST HIGHEST] [--tries N]\n  \
+          says whether SHEET is what our box gives, and if not, where it first differs. A sheet has event records, each\n  \
+          with its answer (1E and 0 or the refusal) and its actions behind it.\n",
+    )
+}
+
+fn put_produce(out: &mut [u8], at: usize) -> usize {
+    put(
+        out,
+        at,
+        b"resheftal produce LOG -o SHEET [--x LOWEST HIGHEST] [--tries N]\n  \
+          writes the sheet that our box gives for LOG, which has event records alone, to SHEET (-o - is standard output).\n  \
+          Where that fails, SHEET stays as it was.\n",
+    )
+}
+
+fn put_common(out: &mut [u8], at: usize) -> usize {
+    put(
+        out,
+        at,
+        b"A file that is named - is standard input. --x and --tries say what the box was started with; without them X is\n\
+          1 to 2 and tries are 3, as in the fitted fleets.\n\
+          Status: 0 accepted or made; 1 another answer; 2 wrong use, or something cannot be read or written.\n",
+    )
+}
+
+fn put_commands(out: &mut [u8]) -> usize {
+    let at = put_judge(out, 0);
+    let at = put_produce(out, at);
+    put(
+        out,
+        at,
+        b"resheftal --help, resheftal COMMAND --help, resheftal --version\n",
+    )
+}
+
+fn put_topic(out: &mut [u8], topic: Topic) -> usize {
+    match topic {
+        Topic::Commands => put_commands(out),
+        Topic::Judge => put_judge(out, 0),
+        Topic::Produce => put_produce(out, 0),
+    }
+}
+
+// Tells how the commands are used, or one of them. Answers how long the text is.
+pub fn help_text(topic: Topic, out: &mut [u8]) -> usize {
+    let at = put_topic(out, topic);
+    put_common(out, at)
+}
+
+// Tells which program this is. Answers how long the text is.
+pub fn version_text(out: &mut [u8]) -> usize {
+    put(out, 0, b"resheftal 1: judge, produce\n")
+}
