@@ -1,4 +1,8 @@
-// What `resheftal` prints for sheets that it judges and for logs that it makes sheets of, each after its name.
+// What `resheftal` prints for sheets that it judges, for logs that it makes sheets and marks of, and for states that it looks up, each
+// after its name.
+mod long;
+
+use crate::long::mark_all;
 use judge::produce::produce;
 use libc::STDOUT_FILENO;
 use place::limits::DEFAULT_TRIES;
@@ -18,12 +22,12 @@ fn with_tries(tries: u8) -> Limits {
     }
 }
 
-fn front(room: &[u8], n: usize) -> &[u8] {
+pub(crate) fn front(room: &[u8], n: usize) -> &[u8] {
     if n <= room.len() { &room[0..n] } else { room }
 }
 
 // Reads a file, after its name; answers how many bytes it has.
-fn read_after(name: &[u8], path: &[u8], room: &mut [u8]) -> usize {
+pub(crate) fn read_after(name: &[u8], path: &[u8], room: &mut [u8]) -> usize {
     io::write_all(STDOUT_FILENO, name);
     let fd = os::open_read(path);
     if fd < 0 {
@@ -84,4 +88,5 @@ fn main() {
     made(b"made, short\n", b"short_log.bin", fleet);
     made(b"made, unknown\n", b"unknown_log.bin", fleet);
     made(b"made, no tries\n", b"log.bin", with_tries(0));
+    mark_all(fleet, with_tries(0));
 }

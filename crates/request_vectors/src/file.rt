@@ -3,21 +3,23 @@ ghost use mathlib.Core.Path.{_≡_};
 ghost use lib.ListN.{length};
 use crate::judging::judging_holds;
 use crate::making::making_holds;
+use crate::marking::marking_holds;
 use crate::part::short_at;
 use libc::STDOUT_FILENO;
 use std::num::wrapping_add_u64;
 use wire::byte::byte_at;
 
 // The room for a vector.
-const LONGEST: usize = 8192;
+const LONGEST: usize = 16384;
 
 // The operations: a sheet judged, a sheet made.
 const JUDGE: u8 = 1;
 
 const PRODUCE: u8 = 2;
 
-// The count so far: the vectors tried and those that differ; and whether the file may hold more.
+// The count so far: whether the vectors are those of marks, how many were tried and differ; and whether the file may hold more.
 struct Progress {
+    marks: bool,
     tried: u64,
     differ: u64,
     more: bool,
@@ -37,7 +39,10 @@ fn one(test: bool) -> u64 {
 }
 
 // Whether the vector holds; one of no operation does not.
-fn holds(v: &[u8]) -> bool {
+fn holds(v: &[u8], marks: bool) -> bool {
+    if marks {
+        return marking_holds(v);
+    }
     match byte_at(v, 0) {
         JUDGE => judging_holds(v),
         PRODUCE => making_holds(v),
@@ -56,8 +61,9 @@ fn tell(holds: bool, ordinal: u64) {
 }
 
 impl Progress {
-    fn none() -> Progress {
+    fn none(marks: bool) -> Progress {
         Progress {
+            marks,
             tried: 0,
             differ: 0,
             more: true,
@@ -67,6 +73,7 @@ impl Progress {
     // The file holds no further vector; what is cut off counts as one that differs.
     fn ended(self, whole: bool) -> Progress {
         Progress {
+            marks: self.marks,
             tried: self.tried,
             differ: wrapping_add_u64(self.differ, one(!whole)),
             more: false,
@@ -75,9 +82,10 @@ impl Progress {
 
     // One more vector.
     fn add(self, v: &[u8]) -> Progress {
-        let good = holds(v);
+        let good = holds(v, self.marks);
         tell(good, self.tried);
         Progress {
+            marks: self.marks,
             tried: wrapping_add_u64(self.tried, 1),
             differ: wrapping_add_u64(self.differ, one(!good)),
             more: true,
@@ -120,15 +128,15 @@ impl Progress {
 }
 
 // Room for the longest vector. The `ensures` gives only the length.
-fn longest_vector() -> [u8; 8192]
-    ensures { λ r. ⌜ 8192 ≡ length r ⌝ }
+fn longest_vector() -> [u8; 16384]
+    ensures { λ r. ⌜ 16384 ≡ length r ⌝ }
 {
-    [0; 8192]
+    [0; 16384]
 }
 
 // A proved loop has to end, and nothing says that a file does: the turns are counted down from a number that no run uses up.
-fn read_all(fd: i32) -> Progress {
-    let mut progress = Progress::none();
+fn read_all(fd: i32, marks: bool) -> Progress {
+    let mut progress = Progress::none(marks);
     let mut turns = u64::MAX;
     loop {
         if turns == 0 {
@@ -144,7 +152,7 @@ fn read_all(fd: i32) -> Progress {
 }
 
 // Tries all vectors of a file, names those that differ, and writes how many there are.
-pub(crate) fn try_file(name: &[u8]) {
+pub(crate) fn try_file(name: &[u8], marks: bool) {
     say(name);
     say(b"\n");
     let fd = os::open_read(name);
@@ -152,6 +160,6 @@ pub(crate) fn try_file(name: &[u8]) {
         os::fail(name);
         return;
     }
-    read_all(fd).write();
+    read_all(fd, marks).write();
     libc::close(fd);
 }

@@ -1,12 +1,12 @@
 // A vector of our own sheet: limits, the room lent, the answer that is expected, the log, and the sheet.
-ghost use mathlib.Core.Path.{_≡_};
-ghost use lib.ListN.{length};
 use crate::judging::limits_of;
+use crate::part::filled;
 use crate::part::front;
 use crate::part::long_at;
 use crate::part::rest;
 use crate::part::same;
 use crate::part::short_at;
+use crate::part::untouched;
 use judge::produce::Produced;
 use judge::produce::produce;
 use wire::byte::byte_at;
@@ -29,30 +29,6 @@ const LOG: usize = 18;
 
 // The largest room of a vector.
 const MOST_ROOM: usize = 4096;
-
-// What stands in the room before the call.
-const FILL: u8 = 238;
-
-// The room for a sheet. The `ensures` gives only the length.
-fn filled() -> [u8; 4096]
-    ensures { λ r. ⌜ 4096 ≡ length r ⌝ }
-{
-    [FILL; 4096]
-}
-
-// Whether all these bytes are as they were.
-fn untouched(s: &[u8]) -> bool {
-    let mut i = 0;
-    loop {
-        if i >= s.len() {
-            break true;
-        }
-        if byte_at(s, i) != FILL {
-            break false;
-        }
-        i += 1;
-    }
-}
 
 // The log of a vector, and the sheet that it says.
 fn log_of(v: &[u8]) -> &[u8] {

@@ -1,6 +1,7 @@
 // Parts of a vector, for any position: past the end a part is empty and a number is 0.
 ghost use mathlib.Core.Path.{_≡_};
 ghost use Prim.Native.Nat.{_<_};
+ghost use lib.ListN.{length};
 use wire::byte::byte_at;
 
 // The number of a byte.
@@ -56,6 +57,30 @@ pub(crate) fn same(a: &[u8], b: &[u8]) -> bool {
             break true;
         }
         if byte_at(a, i) != byte_at(b, i) {
+            break false;
+        }
+        i += 1;
+    }
+}
+
+// What stands in the room before the call.
+const FILL: u8 = 238;
+
+// The room for a sheet. The `ensures` gives only the length.
+pub(crate) fn filled() -> [u8; 4096]
+    ensures { λ r. ⌜ 4096 ≡ length r ⌝ }
+{
+    [FILL; 4096]
+}
+
+// Whether all these bytes are as they were.
+pub(crate) fn untouched(s: &[u8]) -> bool {
+    let mut i = 0;
+    loop {
+        if i >= s.len() {
+            break true;
+        }
+        if byte_at(s, i) != FILL {
             break false;
         }
         i += 1;

@@ -1,4 +1,4 @@
-// The commands: a file read, what is asked of it told, and a sheet kept.
+// The commands `judge` and `produce`: a file read, what is asked of it told, and what was made kept.
 use crate::asked::Asked;
 use crate::asked::same;
 use crate::files::Got;
@@ -11,6 +11,7 @@ use crate::say::FAILED;
 use crate::say::complain;
 use crate::say::is_said;
 use crate::say::said;
+use crate::say::tell;
 use judge::produce::produce;
 use place::limits::Limits;
 use tools::judged::judge_text;
@@ -20,11 +21,7 @@ use wire::refusal::ACCEPTED;
 fn tell_judged(limits: Limits, sheet: &[u8]) -> u8 {
     let mut out = io::buffer();
     let told = judge_text(limits, sheet, &mut out);
-    let text = front(&out, told.length);
-    if told.accepted {
-        return said(text, DONE);
-    }
-    said(text, ANOTHER)
+    tell(told, &out)
 }
 
 fn judge_in(asked: Asked, room: &mut [u8]) -> u8 {
@@ -46,7 +43,7 @@ pub(crate) fn judge_file(asked: Asked) -> u8 {
     judge_lent(asked, &mut room)
 }
 
-// The status after words on a sheet that was to be made; where the sheet goes to standard output, they go to standard error.
+// The status after words on what was to be made; where that goes to standard output, they go to standard error.
 fn tell_made(outside: bool, words: &[u8], status: u8) -> u8 {
     if outside {
         complain(words);
@@ -55,16 +52,16 @@ fn tell_made(outside: bool, words: &[u8], status: u8) -> u8 {
     said(words, status)
 }
 
-// Whether a sheet is kept: written to standard output, or in the place of the file of this name.
-fn is_kept(outside: bool, path: &[u8], sheet: &[u8]) -> bool {
+// Whether what was made is kept: written to standard output, or in the place of the file of this name.
+fn is_kept(outside: bool, path: &[u8], made: &[u8]) -> bool {
     if outside {
-        return is_said(sheet);
+        return is_said(made);
     }
-    replaced(path, sheet)
+    replaced(path, made)
 }
 
-// Keeps the sheet that was made, under the name that the word of this number is, and tells of it.
-fn keep(output: usize, code: u8, sheet: &[u8], words: &[u8]) -> u8 {
+// Keeps what was made, where it was not refused, under the name that the word of this number is, and tells of it.
+pub(crate) fn keep(output: usize, code: u8, made: &[u8], words: &[u8]) -> u8 {
     let mut name = io::buffer();
     let n = os::arg(output, &mut name);
     let path = &name[..n];
@@ -72,7 +69,7 @@ fn keep(output: usize, code: u8, sheet: &[u8], words: &[u8]) -> u8 {
     if code != ACCEPTED {
         return tell_made(outside, words, ANOTHER);
     }
-    if is_kept(outside, path, sheet) {
+    if is_kept(outside, path, made) {
         return tell_made(outside, words, DONE);
     }
     FAILED

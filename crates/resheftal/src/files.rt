@@ -1,4 +1,4 @@
-// Reading a file whole, writing a text, and a sheet in the place of a file.
+// Reading a file whole, writing a text, and what was made in the place of a file.
 use crate::asked::same;
 use libc::STDIN_FILENO;
 use tools::text::put;
@@ -6,6 +6,13 @@ use tools::text::put_number;
 
 // What reading a file gave: so many bytes, or an error, which is told.
 pub(crate) enum Got {
+    Bytes(usize),
+    Failed,
+}
+
+// What stands under the name of an output: nothing, so many bytes, or an error, which is told.
+pub(crate) enum Held {
+    Nothing,
     Bytes(usize),
     Failed,
 }
@@ -84,6 +91,13 @@ fn told(reached: Reached, name: &[u8]) -> Got {
     Got::Bytes(reached.at)
 }
 
+// Reads an open file of this name, and closes it.
+fn read_closing(fd: i32, path: &[u8], room: &mut [u8]) -> Got {
+    let got = told(read_open(fd, room), path);
+    libc::close(fd);
+    got
+}
+
 // Reads the file that the word of this number names; a dash is standard input.
 pub(crate) fn read_named(word: usize, room: &mut [u8]) -> Got {
     let mut name = io::buffer();
@@ -97,9 +111,7 @@ pub(crate) fn read_named(word: usize, room: &mut [u8]) -> Got {
         os::fail(path);
         return Got::Failed;
     }
-    let got = told(read_open(fd, room), path);
-    libc::close(fd);
-    got
+    read_closing(fd, path, room)
 }
 
 // Writes all of a text; that it cannot be written is told of this name.
@@ -132,6 +144,35 @@ fn is_replaceable(path: &[u8]) -> bool {
     false
 }
 
+fn found(got: Got) -> Held {
+    match got {
+        Got::Bytes(n) => Held::Bytes(n),
+        Got::Failed => Held::Failed,
+    }
+}
+
+// Reads what stands under the name of an output, which the word of this number is; under a dash, standard output, nothing does.
+pub(crate) fn read_output(word: usize, room: &mut [u8]) -> Held {
+    let mut name = io::buffer();
+    let n = os::arg(word, &mut name);
+    let path = &name[..n];
+    if same(path, b"-") {
+        return Held::Nothing;
+    }
+    if !is_replaceable(path) {
+        return Held::Failed;
+    }
+    let fd = os::open_read(path);
+    if fd >= 0 {
+        return found(read_closing(fd, path, room));
+    }
+    if os::errno() == libc::ENOENT {
+        return Held::Nothing;
+    }
+    os::fail(path);
+    Held::Failed
+}
+
 fn drawn(a: u8, b: u8, c: u8) -> usize {
     a as usize * 65536 + b as usize * 256 + c as usize
 }
@@ -151,9 +192,9 @@ fn removed(new: &[u8]) -> bool {
     false
 }
 
-// Writes a sheet to a new file that is open, and gives it the other name.
-fn renamed(fd: i32, new: &[u8], path: &[u8], sheet: &[u8]) -> bool {
-    if !written(fd, path, sheet) {
+// Writes what was made to a new file that is open, and gives it the other name.
+fn renamed(fd: i32, new: &[u8], path: &[u8], made: &[u8]) -> bool {
+    if !written(fd, path, made) {
         libc::close(fd);
         return removed(new);
     }
@@ -168,8 +209,8 @@ fn renamed(fd: i32, new: &[u8], path: &[u8], sheet: &[u8]) -> bool {
     true
 }
 
-// Puts a sheet in the place of the file of this name, or makes it; where something fails, that is told, and the file is as it was.
-pub(crate) fn replaced(path: &[u8], sheet: &[u8]) -> bool {
+// Puts what was made in the place of the file of this name, or makes it; where something fails, that is told, and the file is as it was.
+pub(crate) fn replaced(path: &[u8], made: &[u8]) -> bool {
     if !is_replaceable(path) {
         return false;
     }
@@ -181,5 +222,5 @@ pub(crate) fn replaced(path: &[u8], sheet: &[u8]) -> bool {
         os::fail(path);
         return false;
     }
-    renamed(fd, new, path, sheet)
+    renamed(fd, new, path, made)
 }

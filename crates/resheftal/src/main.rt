@@ -3,14 +3,20 @@
 mod asked;
 mod commands;
 mod files;
+mod finding;
+mod marking;
 mod say;
 
+use crate::asked::Asked;
+use crate::asked::Command;
 use crate::asked::NOTHING;
 use crate::asked::UNKNOWN;
 use crate::asked::read_words;
 use crate::asked::same;
 use crate::commands::judge_file;
 use crate::commands::produce_file;
+use crate::finding::state_of;
+use crate::marking::mark_file;
 use crate::say::help;
 use crate::say::misused;
 use crate::say::no_words;
@@ -20,24 +26,33 @@ use tools::help::Topic;
 // Where the status goes.
 const STATUS: i32 = 3;
 
-fn judge_asked() -> u8 {
-    let asked = read_words(false);
-    if asked.help {
-        return help(Topic::Judge);
+fn topic_of(command: Command) -> Topic {
+    match command {
+        Command::Judge => Topic::Judge,
+        Command::Produce => Topic::Produce,
+        Command::Marks => Topic::Marks,
+        Command::State => Topic::State,
     }
-    if asked.wrong == NOTHING {
-        return judge_file(asked);
-    }
-    misused(asked.wrong, asked.at)
 }
 
-fn produce_asked() -> u8 {
-    let asked = read_words(true);
+fn run(asked: Asked) -> u8 {
+    let command = asked.command;
+    match command {
+        Command::Judge => judge_file(asked),
+        Command::Produce => produce_file(asked),
+        Command::Marks => mark_file(asked),
+        Command::State => state_of(asked),
+    }
+}
+
+// The status of a command with the words behind it.
+fn obeyed(command: Command) -> u8 {
+    let asked = read_words(command);
     if asked.help {
-        return help(Topic::Produce);
+        return help(topic_of(command));
     }
     if asked.wrong == NOTHING {
-        return produce_file(asked);
+        return run(asked);
     }
     misused(asked.wrong, asked.at)
 }
@@ -45,10 +60,16 @@ fn produce_asked() -> u8 {
 // The status of the command of this name.
 fn answer(name: &[u8]) -> u8 {
     if same(name, b"judge") {
-        return judge_asked();
+        return obeyed(Command::Judge);
     }
     if same(name, b"produce") {
-        return produce_asked();
+        return obeyed(Command::Produce);
+    }
+    if same(name, b"marks") {
+        return obeyed(Command::Marks);
+    }
+    if same(name, b"state") {
+        return obeyed(Command::State);
     }
     if same(name, b"--help") {
         return help(Topic::Commands);

@@ -2,8 +2,9 @@
 use crate::asked::NO_FILE;
 use crate::asked::NO_NUMBER;
 use crate::asked::NO_OUTPUT;
+use crate::asked::NO_RECORD;
 use crate::asked::NO_VALUE;
-use crate::asked::SECOND_FILE;
+use crate::asked::ONE_TOO_MANY;
 use crate::asked::UNKNOWN;
 use crate::asked::WORD_TOO_LONG;
 use crate::files::front;
@@ -13,8 +14,9 @@ use libc::STDOUT_FILENO;
 use tools::help::Topic;
 use tools::help::help_text;
 use tools::help::version_text;
+use tools::text::Told;
 
-// The statuses: accepted or made; another answer; wrong use, or something that cannot be read or written.
+// The statuses: accepted, made or found; another answer; wrong use, or something that cannot be read or written.
 pub(crate) const DONE: u8 = b'0';
 
 pub(crate) const ANOTHER: u8 = b'1';
@@ -29,6 +31,15 @@ pub(crate) fn is_said(bytes: &[u8]) -> bool {
 // The status after a text on standard output.
 pub(crate) fn said(text: &[u8], status: u8) -> u8 {
     if is_said(text) { status } else { FAILED }
+}
+
+// The status after what was told, the front of a room.
+pub(crate) fn tell(told: Told, room: &[u8]) -> u8 {
+    let text = front(room, told.length);
+    if told.accepted {
+        return said(text, DONE);
+    }
+    said(text, ANOTHER)
 }
 
 // Words on standard error.
@@ -69,12 +80,13 @@ pub(crate) fn misused(wrong: u8, at: usize) -> u8 {
     complain(b"resheftal: ");
     match wrong {
         UNKNOWN => complain_of(b"no such command or option: ", at),
-        SECOND_FILE => complain_of(b"one file too many: ", at),
+        ONE_TOO_MANY => complain_of(b"one word too many: ", at),
         NO_NUMBER => complain_of(b"not a number: ", at),
         NO_VALUE => complain_of(b"something is missing behind ", at),
         WORD_TOO_LONG => complain(b"a word is too long"),
         NO_FILE => complain(b"no file is named"),
-        NO_OUTPUT => complain(b"produce needs -o SHEET"),
+        NO_OUTPUT => complain(b"-o and the name of a file are needed"),
+        NO_RECORD => complain(b"no record is given"),
         _ => complain(b"wrong use"),
     }
     complain(b" (resheftal --help says how it is used)\n");

@@ -6,6 +6,8 @@ pub enum Topic {
     Commands,
     Judge,
     Produce,
+    Marks,
+    State,
 }
 
 fn put_judge(out: &mut [u8], at: usize) -> usize {
@@ -28,19 +30,41 @@ fn put_produce(out: &mut [u8], at: usize) -> usize {
     )
 }
 
+fn put_marks(out: &mut [u8], at: usize) -> usize {
+    put(
+        out,
+        at,
+        b"resheftal marks LOG -o MARKS [--extend] [--x LOWEST HIGHEST] [--tries N]\n  \
+          writes the marks of LOG to MARKS: after each 256th record its offset and the state, 47 bytes. A file MARKS that is\n  \
+          there is compared with them and stays as it was; with --extend it gets those of the records that LOG has more.\n",
+    )
+}
+
+fn put_state(out: &mut [u8], at: usize) -> usize {
+    put(
+        out,
+        at,
+        b"resheftal state LOG RECORD [--marks MARKS] [--x LOWEST HIGHEST] [--tries N]\n  \
+          tells the state after the record of this number, 0 for the start, and the record that led there. With the marks\n  \
+          of LOG at most 255 records are stepped for it, and without them all up to there.\n",
+    )
+}
+
 fn put_common(out: &mut [u8], at: usize) -> usize {
     put(
         out,
         at,
         b"A file that is named - is standard input. --x and --tries say what the box was started with; without them X is\n\
           1 to 2 and tries are 3, as in the fitted fleets.\n\
-          Status: 0 accepted or made; 1 another answer; 2 wrong use, or something cannot be read or written.\n",
+          Status: 0 accepted, made or found; 1 another answer; 2 wrong use, or something cannot be read or written.\n",
     )
 }
 
 fn put_commands(out: &mut [u8]) -> usize {
     let at = put_judge(out, 0);
     let at = put_produce(out, at);
+    let at = put_marks(out, at);
+    let at = put_state(out, at);
     put(
         out,
         at,
@@ -53,6 +77,8 @@ fn put_topic(out: &mut [u8], topic: Topic) -> usize {
         Topic::Commands => put_commands(out),
         Topic::Judge => put_judge(out, 0),
         Topic::Produce => put_produce(out, 0),
+        Topic::Marks => put_marks(out, 0),
+        Topic::State => put_state(out, 0),
     }
 }
 
@@ -64,5 +90,5 @@ pub fn help_text(topic: Topic, out: &mut [u8]) -> usize {
 
 // Tells which program this is. Answers how long the text is.
 pub fn version_text(out: &mut [u8]) -> usize {
-    put(out, 0, b"resheftal 1: judge, produce\n")
+    put(out, 0, b"resheftal 1: judge, produce, marks, state\n")
 }

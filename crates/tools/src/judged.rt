@@ -4,6 +4,7 @@ use crate::standing::put_line;
 use crate::standing::put_line_at;
 use crate::standing::put_lines;
 use crate::started::put_limits;
+use crate::text::Told;
 use crate::text::begins_with;
 use crate::text::put;
 use crate::text::put_count;
@@ -20,12 +21,6 @@ use std::num::wrapping_add_usize;
 use unit::answer::Action;
 use wire::refusal::ACCEPTED;
 
-// What was told: how long the text is, and whether the sheet is accepted.
-pub struct Told {
-    pub length: usize,
-    pub accepted: bool,
-}
-
 fn put_accepted(out: &mut [u8], at: usize, records: usize, bytes: usize) -> usize {
     let at = put(out, at, b"accepted: ");
     let at = put_count(out, at, records, b" event record, ", b" event records, ");
@@ -41,8 +36,7 @@ fn put_stands(out: &mut [u8], at: usize, stands: Finding) -> usize {
     }
 }
 
-// Which record is at fault: the event record of this number, its answer, or one of its actions. Behind the event record stand so many, of
-// which the first is the answer: so that is the action's number too.
+// Which record is at fault: the event record of this number, its answer, or one of its actions, with so many records behind it before.
 fn put_which(out: &mut [u8], at: usize, due: Due, ordinal: usize, behind: usize) -> usize {
     match due {
         Due::AnEvent => put_numbered(out, at, b"event record ", ordinal),
@@ -127,7 +121,7 @@ fn put_before(out: &mut [u8], at: usize, sheet: &[u8], from: usize, offset: usiz
     put_lines(out, at, sheet, from, offset)
 }
 
-// Where the lines before a fault begin: at the last event record that stands right with all that follows it, or at the first.
+// Where the records that are told before a fault begin: at the last whole entry, and so before the entry that the fault is in.
 fn told_from(due: Due, before: usize, last: usize) -> usize {
     match due {
         Due::AnEvent => last,

@@ -1,8 +1,12 @@
 // What people read: pure functions from bytes to text, written into a lent buffer. The program `resheftal` reads, calls them and writes.
 pub mod help;
 pub mod judged;
+mod log;
 pub mod made;
+pub mod marked;
 mod standing;
 pub mod started;
+mod state;
+pub mod stepped;
 pub mod text;
 mod words;

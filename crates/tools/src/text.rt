@@ -5,6 +5,12 @@ use wire::byte::byte_at;
 // Room for every text that is told here.
 pub const TEXT_ROOM: usize = 4096;
 
+// What was told: how long the text is, and whether it says that the thing is as it must be, or is found.
+pub struct Told {
+    pub length: usize,
+    pub accepted: bool,
+}
+
 // Puts these bytes at an offset of a buffer, as many as fit, and answers the offset behind them.
 pub fn put(out: &mut [u8], at: usize, words: &[u8]) -> usize {
     let mut to = at;
@@ -80,6 +86,27 @@ pub(crate) fn put_hex(out: &mut [u8], at: usize, bytes: &[u8]) -> usize {
     while i < bytes.len() {
         let byte = byte_at(bytes, i);
         to = put(out, to, &[b' ', hex_digit(byte / 16), hex_digit(byte)]);
+        i += 1;
+    }
+    to
+}
+
+fn small_digit(n: u8) -> u8 {
+    let low = n % 16;
+    if low < 10 {
+        b'0' + low
+    } else {
+        b'a' - 10 + low
+    }
+}
+
+// Bytes in hex with small letters, one behind the other, as `show_image` shows an image.
+pub(crate) fn put_image(out: &mut [u8], at: usize, bytes: &[u8]) -> usize {
+    let mut to = at;
+    let mut i = 0;
+    while i < bytes.len() {
+        let byte = byte_at(bytes, i);
+        to = put(out, to, &[small_digit(byte / 16), small_digit(byte)]);
         i += 1;
     }
     to

@@ -93,7 +93,7 @@ pub(crate) fn put_refused(out: &mut [u8], at: usize, code: u8, too_long: &[u8]) 
             b": no box starts so: X is 0 to 7, the lowest not over the highest, and tries are 1 to 9\n",
         ),
         LOG_TOO_LONG => put(out, at, too_long),
-        NO_ROOM => put(out, at, b": the room for the sheet is too small\n"),
+        NO_ROOM => put(out, at, b": the room is too small\n"),
         _ => put(out, at, b"\n"),
     }
 }
@@ -144,7 +144,7 @@ fn number_of(partner: Partner) -> usize {
 }
 
 // A partner as people say it: RBC 5 (NID_C 0, NID_RBC 5).
-fn put_partner(out: &mut [u8], at: usize, partner: Partner) -> usize {
+pub(crate) fn put_partner(out: &mut [u8], at: usize, partner: Partner) -> usize {
     let number = number_of(partner);
     let at = put_type(out, at, partner.kind);
     let at = put_number(out, at, number);
@@ -179,14 +179,14 @@ fn put_order(out: &mut [u8], at: usize, partner: Partner, accepting: bool, cause
 }
 
 // The highest level is NTC.
-fn put_level(out: &mut [u8], at: usize, level: u64) -> usize {
+pub(crate) fn put_level(out: &mut [u8], at: usize, level: u64) -> usize {
     if level == long(HIGHEST_LEVEL) {
         return put(out, at, b"level NTC");
     }
     put_numbered(out, at, b"level ", level as usize)
 }
 
-fn put_mission(out: &mut [u8], at: usize, mission: u64) -> usize {
+pub(crate) fn put_mission(out: &mut [u8], at: usize, mission: u64) -> usize {
     match mission {
         0 => put(out, at, b"mission ended"),
         1 => put(out, at, b"mission starting"),

@@ -5,10 +5,10 @@ use Rattle.resheftal.proofs.asked.read_words.Statement.{statement}
 use Rattle.resheftal.proofs.asked.read_words.Tie as tie
 
 abbrev Inv-loop : tie.InvT-loop
-Inv-loop makes count so-far₀ i₀ so-far i = Unit
+Inv-loop count so-far₀ i₀ so-far i = Unit
 
 abbrev μ-loop : tie.MeasureT-loop
-μ-loop makes count so-far₀ i₀ so-far i = count - i
+μ-loop count so-far₀ i₀ so-far i = count - i
 
 pub read-words-spec : {M : Type 1} → statement M
 read-words-spec =

@@ -1,7 +1,7 @@
 -- Each turn takes one of the turns left.
 use borrow.Author.Needs.{needs}
-use Rattle.tools.proofs.made.stopped_at.Statement.{statement}
-use Rattle.tools.proofs.made.stopped_at.Tie as tie
+use Rattle.tools.proofs.log.stopped_at.Statement.{statement}
+use Rattle.tools.proofs.log.stopped_at.Tie as tie
 
 abbrev Inv-loop : tie.InvT-loop
 Inv-loop log records at₀ left₀ at left = Unit

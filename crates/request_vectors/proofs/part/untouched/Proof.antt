@@ -3,8 +3,8 @@ use borrow.Author.Needs.{needs}
 use Prim.Native.Nat.{_-_}
 use native.Mathlib.Omega.{arith}
 use lib.ListN.{length}
-use Rattle.request_vectors.proofs.making.untouched.Statement.{statement}
-use Rattle.request_vectors.proofs.making.untouched.Tie as tie
+use Rattle.request_vectors.proofs.part.untouched.Statement.{statement}
+use Rattle.request_vectors.proofs.part.untouched.Tie as tie
 
 abbrev Inv-loop : tie.InvT-loop
 Inv-loop s i₀ i = Unit {0}

@@ -1,0 +1,5 @@
+pub mod Marks
+pub mod Building
+pub mod Lookup
+pub mod LogMarks
+pub mod MarkExamples
