@@ -1,8 +1,10 @@
-// What `resheftal` prints for sheets that it judges, for logs that it makes sheets and marks of, and for states that it looks up, each
-// after its name.
+// What `resheftal` prints for sheets that it judges, for logs that it makes sheets and marks of or gives to the shunter, and for states
+// that it looks up, each after its name.
 mod long;
+mod shunting;
 
 use crate::long::mark_all;
+use crate::shunting::shunt_all;
 use judge::produce::produce;
 use libc::STDOUT_FILENO;
 use place::limits::DEFAULT_TRIES;
@@ -89,4 +91,5 @@ fn main() {
     made(b"made, unknown\n", b"unknown_log.bin", fleet);
     made(b"made, no tries\n", b"log.bin", with_tries(0));
     mark_all(fleet, with_tries(0));
+    shunt_all(fleet, with_tries(0));
 }

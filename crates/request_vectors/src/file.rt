@@ -5,6 +5,7 @@ use crate::judging::judging_holds;
 use crate::making::making_holds;
 use crate::marking::marking_holds;
 use crate::part::short_at;
+use crate::shunting::shunting_holds;
 use libc::STDOUT_FILENO;
 use std::num::wrapping_add_u64;
 use wire::byte::byte_at;
@@ -12,14 +13,21 @@ use wire::byte::byte_at;
 // The room for a vector.
 const LONGEST: usize = 16384;
 
-// The operations: a sheet judged, a sheet made.
+// The operations of sheets: one judged, one made.
 const JUDGE: u8 = 1;
 
 const PRODUCE: u8 = 2;
 
-// The count so far: whether the vectors are those of marks, how many were tried and differ; and whether the file may hold more.
+// What the vectors of a file are of.
+pub(crate) enum Subject {
+    Sheets,
+    Marks,
+    Shunters,
+}
+
+// The count so far: what the vectors are of, how many were tried and differ; and whether the file may hold more.
 struct Progress {
-    marks: bool,
+    subject: Subject,
     tried: u64,
     differ: u64,
     more: bool,
@@ -38,15 +46,21 @@ fn one(test: bool) -> u64 {
     if test { 1 } else { 0 }
 }
 
-// Whether the vector holds; one of no operation does not.
-fn holds(v: &[u8], marks: bool) -> bool {
-    if marks {
-        return marking_holds(v);
-    }
+// Whether a vector of sheets holds; one of no operation does not.
+fn sheet_holds(v: &[u8]) -> bool {
     match byte_at(v, 0) {
         JUDGE => judging_holds(v),
         PRODUCE => making_holds(v),
         _ => false,
+    }
+}
+
+// Whether the vector holds.
+fn holds(v: &[u8], subject: Subject) -> bool {
+    match subject {
+        Subject::Sheets => sheet_holds(v),
+        Subject::Marks => marking_holds(v),
+        Subject::Shunters => shunting_holds(v),
     }
 }
 
@@ -61,9 +75,9 @@ fn tell(holds: bool, ordinal: u64) {
 }
 
 impl Progress {
-    fn none(marks: bool) -> Progress {
+    fn none(subject: Subject) -> Progress {
         Progress {
-            marks,
+            subject,
             tried: 0,
             differ: 0,
             more: true,
@@ -72,8 +86,9 @@ impl Progress {
 
     // The file holds no further vector; what is cut off counts as one that differs.
     fn ended(self, whole: bool) -> Progress {
+        let subject = self.subject;
         Progress {
-            marks: self.marks,
+            subject,
             tried: self.tried,
             differ: wrapping_add_u64(self.differ, one(!whole)),
             more: false,
@@ -82,10 +97,11 @@ impl Progress {
 
     // One more vector.
     fn add(self, v: &[u8]) -> Progress {
-        let good = holds(v, self.marks);
+        let subject = self.subject;
+        let good = holds(v, subject);
         tell(good, self.tried);
         Progress {
-            marks: self.marks,
+            subject,
             tried: wrapping_add_u64(self.tried, 1),
             differ: wrapping_add_u64(self.differ, one(!good)),
             more: true,
@@ -135,8 +151,8 @@ fn longest_vector() -> [u8; 16384]
 }
 
 // A proved loop has to end, and nothing says that a file does: the turns are counted down from a number that no run uses up.
-fn read_all(fd: i32, marks: bool) -> Progress {
-    let mut progress = Progress::none(marks);
+fn read_all(fd: i32, subject: Subject) -> Progress {
+    let mut progress = Progress::none(subject);
     let mut turns = u64::MAX;
     loop {
         if turns == 0 {
@@ -152,7 +168,7 @@ fn read_all(fd: i32, marks: bool) -> Progress {
 }
 
 // Tries all vectors of a file, names those that differ, and writes how many there are.
-pub(crate) fn try_file(name: &[u8], marks: bool) {
+pub(crate) fn try_file(name: &[u8], subject: Subject) {
     say(name);
     say(b"\n");
     let fd = os::open_read(name);
@@ -160,6 +176,6 @@ pub(crate) fn try_file(name: &[u8], marks: bool) {
         os::fail(name);
         return;
     }
-    read_all(fd, marks).write();
+    read_all(fd, subject).write();
     libc::close(fd);
 }

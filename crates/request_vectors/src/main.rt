@@ -1,14 +1,22 @@
-// The vectors of the model of sheets and of marks, through the proved code; then a few of them, good and with each compared field wrong by
-// itself (independent-model/judge_vectors.c, marks_vectors.c), so that these have to be named and no other.
+// The vectors of the model of sheets, of marks and of the shunter, through the proved code; then a few of them, good and with each
+// compared field wrong by itself (independent-model/judge_vectors.c, marks_vectors.c, shunter_vectors.c), so that these have to be named
+// and no other.
 mod file;
 mod judging;
+mod log;
 mod making;
 mod marking;
 mod part;
+mod shunting;
+
+use crate::file::Subject;
+use crate::file::try_file;
 
 fn main() {
-    file::try_file(b"judge.bin", false);
-    file::try_file(b"judge_spoilt.bin", false);
-    file::try_file(b"marks.bin", true);
-    file::try_file(b"marks_spoilt.bin", true);
+    try_file(b"judge.bin", Subject::Sheets);
+    try_file(b"judge_spoilt.bin", Subject::Sheets);
+    try_file(b"marks.bin", Subject::Marks);
+    try_file(b"marks_spoilt.bin", Subject::Marks);
+    try_file(b"shunter.bin", Subject::Shunters);
+    try_file(b"shunter_spoilt.bin", Subject::Shunters);
 }

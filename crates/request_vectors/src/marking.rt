@@ -1,7 +1,8 @@
-// A vector of marks: limits, a log that is told as a block so many times and a tail, and what is expected.
-ghost use mathlib.Core.Path.{_≡_};
-ghost use lib.ListN.{length};
+// A vector of marks: limits, a log, and what is expected.
 use crate::judging::limits_of;
+use crate::log::asked;
+use crate::log::expand;
+use crate::log::longest_log;
 use crate::part::filled;
 use crate::part::front;
 use crate::part::long_at;
@@ -19,13 +20,6 @@ use tools::text::put;
 use wire::byte::byte_at;
 use wire::join::and;
 
-// Where the fields of every vector of marks stand.
-const REPEATS: usize = 4;
-
-const BLOCK_LENGTH: usize = 6;
-
-const BLOCK: usize = 8;
-
 // The largest room of a vector.
 const MOST_ROOM: usize = 4096;
 
@@ -35,36 +29,6 @@ const BUILD: u8 = 1;
 const EXTEND: u8 = 2;
 
 const LOOK_UP: u8 = 3;
-
-// The block, the tail, and what stands behind them.
-fn block_of(v: &[u8]) -> &[u8] {
-    front(rest(v, BLOCK), short_at(v, BLOCK_LENGTH))
-}
-
-fn tailed(v: &[u8]) -> &[u8] {
-    rest(rest(v, BLOCK), short_at(v, BLOCK_LENGTH))
-}
-
-fn tail_of(v: &[u8]) -> &[u8] {
-    let tail = tailed(v);
-    front(rest(tail, 2), short_at(tail, 0))
-}
-
-fn asked(v: &[u8]) -> &[u8] {
-    let tail = tailed(v);
-    rest(rest(tail, 2), short_at(tail, 0))
-}
-
-// Writes the log into its room; answers how long it is.
-fn expand(v: &[u8], log: &mut [u8]) -> usize {
-    let mut at = 0;
-    let mut left = short_at(v, REPEATS);
-    while left > 0 {
-        at = put(log, at, block_of(v));
-        left -= 1;
-    }
-    put(log, at, tail_of(v))
-}
 
 // Whether an answer has this code and so many marks.
 fn marked_is(marked: Marked, code: u8, count: usize) -> bool {
@@ -170,13 +134,6 @@ fn with_log(v: &[u8], log: &[u8]) -> bool {
     }
     let mut room = filled();
     written_is(v, log, &mut room[0..length])
-}
-
-// Room for the longest log of a vector. The `ensures` gives only the length.
-fn longest_log() -> [u8; 65536]
-    ensures { λ r. ⌜ 65536 ≡ length r ⌝ }
-{
-    [0; 65536]
 }
 
 // Whether what the vector asks for is what it says.

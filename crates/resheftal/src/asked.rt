@@ -47,6 +47,7 @@ pub(crate) enum Command {
     Produce,
     Marks,
     State,
+    Shunter,
 }
 
 // What is asked for: by which command; the numbers of the words that name the file, the output and the marks, 0 where none does; the number
@@ -81,6 +82,7 @@ impl Command {
             Command::Produce => true,
             Command::Marks => true,
             Command::State => false,
+            Command::Shunter => false,
         }
     }
 
@@ -91,6 +93,7 @@ impl Command {
             Command::Produce => false,
             Command::Marks => true,
             Command::State => false,
+            Command::Shunter => false,
         }
     }
 
@@ -101,6 +104,7 @@ impl Command {
             Command::Produce => false,
             Command::Marks => false,
             Command::State => true,
+            Command::Shunter => false,
         }
     }
 }

@@ -6,6 +6,7 @@ mod files;
 mod finding;
 mod marking;
 mod say;
+mod shunting;
 
 use crate::asked::Asked;
 use crate::asked::Command;
@@ -21,6 +22,7 @@ use crate::say::help;
 use crate::say::misused;
 use crate::say::no_words;
 use crate::say::version;
+use crate::shunting::shunt_file;
 use tools::help::Topic;
 
 // Where the status goes.
@@ -32,6 +34,7 @@ fn topic_of(command: Command) -> Topic {
         Command::Produce => Topic::Produce,
         Command::Marks => Topic::Marks,
         Command::State => Topic::State,
+        Command::Shunter => Topic::Shunter,
     }
 }
 
@@ -42,6 +45,7 @@ fn run(asked: Asked) -> u8 {
         Command::Produce => produce_file(asked),
         Command::Marks => mark_file(asked),
         Command::State => state_of(asked),
+        Command::Shunter => shunt_file(asked),
     }
 }
 
@@ -70,6 +74,9 @@ fn answer(name: &[u8]) -> u8 {
     }
     if same(name, b"state") {
         return obeyed(Command::State);
+    }
+    if same(name, b"shunter") {
+        return obeyed(Command::Shunter);
     }
     if same(name, b"--help") {
         return help(Topic::Commands);

@@ -8,6 +8,7 @@ pub enum Topic {
     Produce,
     Marks,
     State,
+    Shunter,
 }
 
 fn put_judge(out: &mut [u8], at: usize) -> usize {
@@ -50,13 +51,23 @@ fn put_state(out: &mut [u8], at: usize) -> usize {
     )
 }
 
+fn put_shunter(out: &mut [u8], at: usize) -> usize {
+    put(
+        out,
+        at,
+        b"resheftal shunter LOG [--x LOWEST HIGHEST] [--tries N]\n  \
+          tells what the shunter, which has two modems for the four places, does with LOG: of each record the answer, what\n  \
+          went out, who holds a modem then and who waits for one, the longest waiting first; and how often each went out.\n",
+    )
+}
+
 fn put_common(out: &mut [u8], at: usize) -> usize {
     put(
         out,
         at,
         b"A file that is named - is standard input. --x and --tries say what the box was started with; without them X is\n\
           1 to 2 and tries are 3, as in the fitted fleets.\n\
-          Status: 0 accepted, made or found; 1 another answer; 2 wrong use, or something cannot be read or written.\n",
+          Status: 0 accepted, made, found or told; 1 another answer; 2 wrong use, or something cannot be read or written.\n",
     )
 }
 
@@ -65,6 +76,7 @@ fn put_commands(out: &mut [u8]) -> usize {
     let at = put_produce(out, at);
     let at = put_marks(out, at);
     let at = put_state(out, at);
+    let at = put_shunter(out, at);
     put(
         out,
         at,
@@ -79,6 +91,7 @@ fn put_topic(out: &mut [u8], topic: Topic) -> usize {
         Topic::Produce => put_produce(out, 0),
         Topic::Marks => put_marks(out, 0),
         Topic::State => put_state(out, 0),
+        Topic::Shunter => put_shunter(out, 0),
     }
 }
 
@@ -90,5 +103,9 @@ pub fn help_text(topic: Topic, out: &mut [u8]) -> usize {
 
 // Tells which program this is. Answers how long the text is.
 pub fn version_text(out: &mut [u8]) -> usize {
-    put(out, 0, b"resheftal 1: judge, produce, marks, state\n")
+    put(
+        out,
+        0,
+        b"resheftal 1: judge, produce, marks, state, shunter\n",
+    )
 }

@@ -4,6 +4,7 @@ pub mod judged;
 mod log;
 pub mod made;
 pub mod marked;
+pub mod shunted;
 mod standing;
 pub mod started;
 mod state;

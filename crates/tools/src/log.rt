@@ -64,6 +64,18 @@ fn extent_of(log: &[u8]) -> Extent {
     }
 }
 
+// The record that stands at an offset of a log; nothing past its end.
+pub(crate) fn record_at(log: &[u8], at: usize) -> &[u8] {
+    let end = end_of(log, at);
+    if end > log.len() {
+        return &log[..0];
+    }
+    if at > end {
+        return &log[..0];
+    }
+    &log[at..end]
+}
+
 // How many records a log has.
 pub(crate) fn records_of(log: &[u8]) -> usize {
     let extent = extent_of(log);

@@ -55,7 +55,7 @@ const NUMBERS_OF_MIDDLE: usize = 256;
 const VERSIONS_OF_X: u8 = 16;
 
 // Why an event record is refused.
-fn put_refusal(out: &mut [u8], at: usize, code: u8) -> usize {
+pub(crate) fn put_refusal(out: &mut [u8], at: usize, code: u8) -> usize {
     match code {
         OUT_OF_RANGE => put(out, at, b"a field is outside its range"),
         NOT_IN_FORCE => put(out, at, b"the order's cause is not in force"),
@@ -143,11 +143,16 @@ fn number_of(partner: Partner) -> usize {
         + partner.low as usize
 }
 
+// A partner by its type and its whole number: RBC 5.
+pub(crate) fn put_name(out: &mut [u8], at: usize, partner: Partner) -> usize {
+    let at = put_type(out, at, partner.kind);
+    put_number(out, at, number_of(partner))
+}
+
 // A partner as people say it: RBC 5 (NID_C 0, NID_RBC 5).
 pub(crate) fn put_partner(out: &mut [u8], at: usize, partner: Partner) -> usize {
     let number = number_of(partner);
-    let at = put_type(out, at, partner.kind);
-    let at = put_number(out, at, number);
+    let at = put_name(out, at, partner);
     let at = put_numbered(out, at, b" (NID_C ", number / NUMBERS_OF_NID_C);
     let at = put_numbered(out, at, b", NID_RBC ", number % NUMBERS_OF_NID_C);
     put(out, at, b")")
@@ -260,7 +265,7 @@ pub(crate) fn is_action(number: u8) -> bool {
 }
 
 // An action up to its partner.
-fn put_sent(out: &mut [u8], at: usize, number: u8) -> usize {
+pub(crate) fn put_sent(out: &mut [u8], at: usize, number: u8) -> usize {
     match number {
         REQUEST => put(out, at, b"request connection to "),
         RELEASE => put(out, at, b"release "),

@@ -151,7 +151,7 @@ pub(crate) fn places_are(state: State, s: &[u8]) -> bool {
 }
 
 // Whether the 41 bytes at the front are those of a state, sound or not.
-pub(crate) fn state_is(state: State, s: &[u8]) -> bool {
+pub fn state_is(state: State, s: &[u8]) -> bool {
     let last = state.last;
     and(
         and(head_is(state, s), places_are(state, rest(s, HEAD_SIZE))),

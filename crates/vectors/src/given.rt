@@ -90,8 +90,8 @@ pub(crate) fn last_in(s: &[u8]) -> Last {
     }
 }
 
-// The state in 41 bytes.
-pub(crate) fn state_in(s: &[u8]) -> State {
+// The state in 41 bytes, sound or not.
+pub fn state_in(s: &[u8]) -> State {
     let places = rest(s, HEAD_SIZE);
     State {
         limits: limits_in(s, TRIES_AT),

@@ -4,10 +4,10 @@ use Rattle.request_vectors.proofs.file.read_all.Statement.{statement}
 use Rattle.request_vectors.proofs.file.read_all.Tie as tie
 
 abbrev Inv-loop : tie.InvT-loop
-Inv-loop fd marks progress₀ turns₀ progress turns = Unit {0}
+Inv-loop fd progress₀ turns₀ progress turns = Unit {0}
 
 abbrev μ-loop : tie.MeasureT-loop
-μ-loop fd marks progress₀ turns₀ progress turns = turns
+μ-loop fd progress₀ turns₀ progress turns = turns
 
 pub read-all-spec : {M : Type 1} → statement M
 read-all-spec =

@@ -3,8 +3,8 @@ use borrow.Author.Needs.{needs}
 use mathlib.Core.Path.{_≡_, refl}
 use native.Mathlib.Omega.{arith}
 use lib.ListN.{length}
-use Rattle.request_vectors.proofs.marking.expand.Statement.{statement}
-use Rattle.request_vectors.proofs.marking.expand.Tie as tie
+use Rattle.request_vectors.proofs.log.expand.Statement.{statement}
+use Rattle.request_vectors.proofs.log.expand.Tie as tie
 
 abbrev Inv-loop : tie.InvT-loop
 Inv-loop v log₀ at₀ left₀ log at left = length log ≡ length log₀
