@@ -1,10 +1,17 @@
-// What `resheftal` prints for sheets that it judges, for logs that it makes sheets and marks of or gives to the shunter, and for states
-// that it looks up, each after its name.
+// What `resheftal` prints for sheets that it judges, for logs that it makes sheets and marks of, gives to the shunter or runs through both
+// engines, and for states that it looks up, each after its name; and what differs in pairs of states and answers made by hand.
+mod both;
+mod by_hand;
 mod long;
 mod shunting;
+mod unequal;
+mod unequal_answers;
 
+use crate::both::compare_all;
 use crate::long::mark_all;
 use crate::shunting::shunt_all;
+use crate::unequal::compare_pairs;
+use crate::unequal_answers::compare_all_answers;
 use judge::produce::produce;
 use libc::STDOUT_FILENO;
 use place::limits::DEFAULT_TRIES;
@@ -92,4 +99,7 @@ fn main() {
     made(b"made, no tries\n", b"log.bin", with_tries(0));
     mark_all(fleet, with_tries(0));
     shunt_all(fleet, with_tries(0));
+    compare_all(fleet, with_tries(0));
+    compare_pairs();
+    compare_all_answers();
 }

@@ -5,6 +5,7 @@ use crate::judging::judging_holds;
 use crate::making::making_holds;
 use crate::marking::marking_holds;
 use crate::part::short_at;
+use crate::setting::setting_holds;
 use crate::shunting::shunting_holds;
 use libc::STDOUT_FILENO;
 use std::num::wrapping_add_u64;
@@ -23,6 +24,7 @@ pub(crate) enum Subject {
     Sheets,
     Marks,
     Shunters,
+    Sets,
 }
 
 // The count so far: what the vectors are of, how many were tried and differ; and whether the file may hold more.
@@ -61,6 +63,7 @@ fn holds(v: &[u8], subject: Subject) -> bool {
         Subject::Sheets => sheet_holds(v),
         Subject::Marks => marking_holds(v),
         Subject::Shunters => shunting_holds(v),
+        Subject::Sets => setting_holds(v),
     }
 }
 

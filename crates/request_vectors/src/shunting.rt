@@ -104,7 +104,7 @@ fn sent_is(sent: Sent, s: &[u8]) -> bool {
 }
 
 // Whether a room has these actions at its front, and the bytes behind them as they were.
-fn room_is(room: &[u8], actions: &[u8]) -> bool {
+pub(crate) fn room_is(room: &[u8], actions: &[u8]) -> bool {
     and(
         same(front(room, actions.len()), actions),
         untouched(rest(room, actions.len())),
@@ -136,7 +136,8 @@ fn step_holds(v: &[u8]) -> bool {
     step_is(shunter_in(given), rest(s, 2), &mut room[0..length])
 }
 
-fn totals_are(totals: Totals, s: &[u8]) -> bool {
+// Whether these bytes are six totals.
+pub(crate) fn totals_are(totals: Totals, s: &[u8]) -> bool {
     let connected = and(
         totals.request as usize == long_at(s, 0),
         totals.release as usize == long_at(s, 4),

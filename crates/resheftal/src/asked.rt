@@ -48,6 +48,7 @@ pub(crate) enum Command {
     Marks,
     State,
     Shunter,
+    Sets,
 }
 
 // What is asked for: by which command; the numbers of the words that name the file, the output and the marks, 0 where none does; the number
@@ -83,6 +84,7 @@ impl Command {
             Command::Marks => true,
             Command::State => false,
             Command::Shunter => false,
+            Command::Sets => false,
         }
     }
 
@@ -94,6 +96,7 @@ impl Command {
             Command::Marks => true,
             Command::State => false,
             Command::Shunter => false,
+            Command::Sets => false,
         }
     }
 
@@ -105,6 +108,7 @@ impl Command {
             Command::Marks => false,
             Command::State => true,
             Command::Shunter => false,
+            Command::Sets => false,
         }
     }
 }

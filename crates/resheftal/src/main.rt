@@ -1,6 +1,7 @@
 // One tool over the box. A program of this language ends with status 0, so this one writes its status as a digit to descriptor 3, and the
 // script `resheftal` ends with it.
 mod asked;
+mod both;
 mod commands;
 mod files;
 mod finding;
@@ -14,6 +15,7 @@ use crate::asked::NOTHING;
 use crate::asked::UNKNOWN;
 use crate::asked::read_words;
 use crate::asked::same;
+use crate::both::compare_file;
 use crate::commands::judge_file;
 use crate::commands::produce_file;
 use crate::finding::state_of;
@@ -35,6 +37,7 @@ fn topic_of(command: Command) -> Topic {
         Command::Marks => Topic::Marks,
         Command::State => Topic::State,
         Command::Shunter => Topic::Shunter,
+        Command::Sets => Topic::Both,
     }
 }
 
@@ -46,6 +49,7 @@ fn run(asked: Asked) -> u8 {
         Command::Marks => mark_file(asked),
         Command::State => state_of(asked),
         Command::Shunter => shunt_file(asked),
+        Command::Sets => compare_file(asked),
     }
 }
 
@@ -77,6 +81,9 @@ fn answer(name: &[u8]) -> u8 {
     }
     if same(name, b"shunter") {
         return obeyed(Command::Shunter);
+    }
+    if same(name, b"sets") {
+        return obeyed(Command::Sets);
     }
     if same(name, b"--help") {
         return help(Topic::Commands);

@@ -35,11 +35,23 @@ pub(crate) fn said(text: &[u8], status: u8) -> u8 {
 
 // The status after what was told, the front of a room.
 pub(crate) fn tell(told: Told, room: &[u8]) -> u8 {
-    let text = front(room, told.length);
-    if told.accepted {
-        return said(text, DONE);
+    ended(false, told.accepted, front(room, told.length))
+}
+
+// Whether a piece of a text is said, and another follows.
+pub(crate) fn goes_on(more: bool, piece: &[u8]) -> bool {
+    if more { is_said(piece) } else { false }
+}
+
+// The status after the last piece; where another was to follow, one could not be said.
+pub(crate) fn ended(more: bool, accepted: bool, piece: &[u8]) -> u8 {
+    if more {
+        return FAILED;
     }
-    said(text, ANOTHER)
+    if accepted {
+        return said(piece, DONE);
+    }
+    said(piece, ANOTHER)
 }
 
 // Words on standard error.

@@ -3,34 +3,22 @@ use crate::asked::Asked;
 use crate::files::Got;
 use crate::files::front;
 use crate::files::read_named;
-use crate::say::ANOTHER;
-use crate::say::DONE;
 use crate::say::FAILED;
-use crate::say::is_said;
-use crate::say::said;
+use crate::say::ended;
+use crate::say::goes_on;
 use place::limits::Limits;
 use tools::shunted::Telling;
 use tools::shunted::shunter_next_text;
 use tools::shunted::shunter_text;
 
 // Whether the last piece, the front of a room, is said, and another follows.
-fn goes_on(telling: Telling, room: &[u8]) -> bool {
-    if telling.more {
-        return is_said(front(room, telling.length));
-    }
-    false
+fn has_more(telling: Telling, room: &[u8]) -> bool {
+    goes_on(telling.more, front(room, telling.length))
 }
 
-// The status after the last piece, the front of a room; where another was to follow, one could not be said.
-fn ended(telling: Telling, room: &[u8]) -> u8 {
-    let text = front(room, telling.length);
-    if telling.more {
-        return FAILED;
-    }
-    if telling.accepted {
-        return said(text, DONE);
-    }
-    said(text, ANOTHER)
+// The status after the last piece, the front of a room.
+fn status_of(telling: Telling, room: &[u8]) -> u8 {
+    ended(telling.more, telling.accepted, front(room, telling.length))
 }
 
 // Each record has a byte, so that there are no more lines than bytes; one turn more tells the stop.
@@ -38,13 +26,13 @@ fn tell_pieces(limits: Limits, log: &[u8], out: &mut [u8]) -> u8 {
     let mut telling = shunter_text(limits, log, out);
     let mut left = log.len();
     loop {
-        if goes_on(telling, out) {
+        if has_more(telling, out) {
             telling = shunter_next_text(telling, log, out);
         } else {
-            break ended(telling, out);
+            break status_of(telling, out);
         }
         if left == 0 {
-            break ended(telling, out);
+            break status_of(telling, out);
         }
         left -= 1;
     }

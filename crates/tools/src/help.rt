@@ -9,6 +9,7 @@ pub enum Topic {
     Marks,
     State,
     Shunter,
+    Both,
 }
 
 fn put_judge(out: &mut [u8], at: usize) -> usize {
@@ -61,6 +62,16 @@ fn put_shunter(out: &mut [u8], at: usize) -> usize {
     )
 }
 
+fn put_sets(out: &mut [u8], at: usize) -> usize {
+    put(
+        out,
+        at,
+        b"resheftal sets LOG [--x LOWEST HIGHEST] [--tries N]\n  \
+          runs LOG through the engine of places and the engine of sets, and tells of each record the answer, what went out\n  \
+          and the sets after it: calling, contacted, incoming, outgoing, lost, terminating. Where the two differ it says so.\n",
+    )
+}
+
 fn put_common(out: &mut [u8], at: usize) -> usize {
     put(
         out,
@@ -77,6 +88,7 @@ fn put_commands(out: &mut [u8]) -> usize {
     let at = put_marks(out, at);
     let at = put_state(out, at);
     let at = put_shunter(out, at);
+    let at = put_sets(out, at);
     put(
         out,
         at,
@@ -92,6 +104,7 @@ fn put_topic(out: &mut [u8], topic: Topic) -> usize {
         Topic::Marks => put_marks(out, 0),
         Topic::State => put_state(out, 0),
         Topic::Shunter => put_shunter(out, 0),
+        Topic::Both => put_sets(out, 0),
     }
 }
 
@@ -106,6 +119,6 @@ pub fn version_text(out: &mut [u8]) -> usize {
     put(
         out,
         0,
-        b"resheftal 1: judge, produce, marks, state, shunter\n",
+        b"resheftal 1: judge, produce, marks, state, shunter, sets\n",
     )
 }

@@ -1,4 +1,6 @@
 // What people read: pure functions from bytes to text, written into a lent buffer. The program `resheftal` reads, calls them and writes.
+pub mod both;
+pub mod compared;
 pub mod help;
 pub mod judged;
 mod log;

@@ -51,7 +51,7 @@ pub struct Telling {
 }
 
 // What a record says; where its fields mean nothing, its kind.
-fn put_said(out: &mut [u8], at: usize, reading: Reading, bytes: &[u8]) -> usize {
+pub(crate) fn put_said(out: &mut [u8], at: usize, reading: Reading, bytes: &[u8]) -> usize {
     match reading {
         Reading::Meant(event) => put_event(out, at, event, byte_at(bytes, 1)),
         Reading::Refused(_) => put_kind(out, at, byte_at(bytes, 0)),
@@ -67,7 +67,8 @@ fn put_reason(out: &mut [u8], at: usize, code: u8) -> usize {
     }
 }
 
-fn put_phase_name(out: &mut [u8], at: usize, number: u8) -> usize {
+// The name of the phase of this number.
+pub(crate) fn put_phase_name(out: &mut [u8], at: usize, number: u8) -> usize {
     match number {
         1 => put(out, at, b"Connecting"),
         2 => put(out, at, b"Contacting"),
@@ -99,7 +100,7 @@ fn put_answered(out: &mut [u8], at: usize, code: u8, standing: Standing) -> usiz
 }
 
 // What stands before an entry of a list that begins at an offset: a comma, where another entry does.
-fn put_comma(out: &mut [u8], at: usize, from: usize) -> usize {
+pub(crate) fn put_comma(out: &mut [u8], at: usize, from: usize) -> usize {
     put_either(out, at, at == from, b"", b", ")
 }
 
@@ -117,7 +118,7 @@ fn put_one(out: &mut [u8], at: usize, from: usize, action: Action, sent: bool) -
 }
 
 // What went out, in its order.
-fn put_actions(out: &mut [u8], from: usize, actions: Actions) -> usize {
+pub(crate) fn put_actions(out: &mut [u8], from: usize, actions: Actions) -> usize {
     let count = actions.count;
     let at = put_one(out, from, from, actions.items[0], count > 0);
     let at = put_one(out, at, from, actions.items[1], count > 1);
@@ -194,7 +195,7 @@ fn put_shunted(out: &mut [u8], at: usize, shunted: Shunted) -> usize {
 }
 
 // A count of a run, and the words for what is counted, for one and for more of it.
-fn put_tallied(out: &mut [u8], at: usize, n: u32, one: &[u8], more: &[u8]) -> usize {
+pub(crate) fn put_tallied(out: &mut [u8], at: usize, n: u32, one: &[u8], more: &[u8]) -> usize {
     put_count(out, at, n as usize, one, more)
 }
 
@@ -219,6 +220,12 @@ fn put_messages(out: &mut [u8], at: usize, totals: Totals) -> usize {
     put_tallied(out, at, totals.established, b" time 159\n", b" times 159\n")
 }
 
+// How often each action went out.
+pub(crate) fn put_totals(out: &mut [u8], at: usize, totals: Totals) -> usize {
+    let at = put_connected(out, at, totals);
+    put_messages(out, at, totals)
+}
+
 // How many records were read, and how many of them were refused.
 fn put_read(out: &mut [u8], at: usize, tally: ShunterTally) -> usize {
     let at = put_tallied(out, at, tally.read, b" record, ", b" records, ");
@@ -230,8 +237,7 @@ fn put_end(out: &mut [u8], log: &[u8], stop: u8, tally: ShunterTally) -> usize {
     let totals = tally.totals;
     let at = put_stopped(out, 0, stop, log, tally.offset);
     let at = put_read(out, at, tally);
-    let at = put_connected(out, at, totals);
-    put_messages(out, at, totals)
+    put_totals(out, at, totals)
 }
 
 impl Telling {
@@ -289,7 +295,7 @@ impl Telling {
 }
 
 // The refusal of the start, else of the log.
-fn code_of(started: u8, taken: u8) -> u8 {
+pub(crate) fn code_of(started: u8, taken: u8) -> u8 {
     if started == ACCEPTED { taken } else { started }
 }
 

@@ -16,7 +16,7 @@ pub enum Last {
 
 impl Last {
     // Whether it is none, or one that an RBC may have.
-    pub(crate) fn is_sound(self) -> bool
+    pub fn is_sound(self) -> bool
         ensures { λ r. ⌜ r ≡ lastOk self ⌝ }
     {
         match self {
@@ -49,7 +49,7 @@ impl Last {
     }
 
     // The partner that an order means: the last known RBC where it names the reserved one.
-    pub(crate) fn meant(self, partner: Partner) -> Partner
+    pub fn meant(self, partner: Partner) -> Partner
         ensures { λ r. ⌜ r ≡ meant self partner ⌝ }
     {
         if partner.is_reserved() {
@@ -60,7 +60,7 @@ impl Last {
     }
 
     // What is known after an action for this partner.
-    pub(crate) fn recall(self, partner: Partner, number: u8) -> Last
+    pub fn recall(self, partner: Partner, number: u8) -> Last
         ensures { λ r. ⌜ r ≡ recalledBy self (act partner number) ⌝ }
     {
         if and(number == ESTABLISHED, partner.is_rbc()) {

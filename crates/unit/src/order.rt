@@ -25,7 +25,7 @@ fn radio_level(train: Train) -> bool
 }
 
 // Whether a cause is in force.
-pub(crate) fn in_force(cause: Cause, train: Train, marks: Marks) -> bool
+pub fn in_force(cause: Cause, train: Train, marks: Marks) -> bool
     ensures { λ r. ⌜ r ≡ inForce cause train marks ⌝ }
 {
     let radio = radio_level(train);
@@ -42,7 +42,7 @@ pub(crate) fn in_force(cause: Cause, train: Train, marks: Marks) -> bool
 }
 
 // The marks after an order was accepted: the one that its cause used is cleared, and no other.
-pub(crate) fn spend(cause: Cause, marks: Marks) -> Marks
+pub fn spend(cause: Cause, marks: Marks) -> Marks
     ensures { λ r. ⌜ r ≡ spend cause marks ⌝ }
 {
     let mut next = marks;
@@ -65,7 +65,7 @@ pub(crate) fn spend(cause: Cause, marks: Marks) -> Marks
 }
 
 // The places that an order closes: sessions with RBCs, for an RBC that does not accept them.
-pub(crate) fn displaced(partner: Partner, accepting: bool) -> Closing
+pub fn displaced(partner: Partner, accepting: bool) -> Closing
     ensures { λ r. ⌜ r ≡ displaced partner accepting ⌝ }
 {
     if and(partner.is_rbc(), negated(accepting)) {

@@ -50,7 +50,7 @@ pub struct State {
 }
 
 // Whether the X numbers and the number of tries are in their ranges.
-pub(crate) fn limits_ok(limits: Limits) -> bool
+pub fn limits_ok(limits: Limits) -> bool
     ensures { λ r. ⌜ r ≡ limitsOk limits ⌝ }
 {
     and(
@@ -62,7 +62,7 @@ pub(crate) fn limits_ok(limits: Limits) -> bool
     )
 }
 
-fn train_ok(train: Train) -> bool
+pub fn train_ok(train: Train) -> bool
     ensures { λ r. ⌜ r ≡ trainOk train ⌝ }
 {
     and(
@@ -71,7 +71,7 @@ fn train_ok(train: Train) -> bool
     )
 }
 
-fn marks_ok(marks: Marks) -> bool
+pub fn marks_ok(marks: Marks) -> bool
     ensures { λ r. ⌜ r ≡ marksOk marks ⌝ }
 {
     negated(and(marks.inside, marks.end))

@@ -1,0 +1,10 @@
+pub mod Members
+pub mod SixSets
+pub mod Moves
+pub mod SetSteps
+pub mod OnSets
+pub mod SetRuns
+pub mod SameSets
+pub mod SetHistories
+pub mod SetExamples
+pub mod Holding
