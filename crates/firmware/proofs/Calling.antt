@@ -21,8 +21,8 @@ use Rattle.unit.specs.declared.answer.Stepped.{Stepped}
 use Rattle.unit.proofs.Few.{onRecord-few}
 use Rattle.unit.proofs.Facts.{sound-facts}
 use Rattle.unit.proofs.Sound.{onRecord-sound}
-use Rattle.unit.proofs.Agreed.Refusals.{onRecord-kept}
-use Rattle.unit.proofs.Agreed.Writing.{written-none}
+use Rattle.unit.proofs.Again.Refusals.{onRecord-kept}
+use Rattle.unit.proofs.Again.Writing.{written-none}
 use Rattle.image.specs.Images.{sizeA2, imageA2, imagedA2, readA2}
 use Rattle.image.proofs.Bytes.{imageA2-length}
 use Rattle.image.proofs.RoundTrips.{writtenA2-read}

@@ -19,7 +19,7 @@ use Rattle.unit.specs.OnRecords.{actionRoom, actionSize, applied, onRecord, tra
 use Rattle.unit.specs.declared.state.State.{State}
 use Rattle.unit.specs.declared.answer.Action.{Action}
 use Rattle.unit.proofs.Sound.{onRecord-sound}
-use Rattle.unit.proofs.Agreed.Refusals.{onRecord-kept}
+use Rattle.unit.proofs.Again.Refusals.{onRecord-kept}
 use Rattle.unit.specs.declared.start.Started.{Started}
 use Rattle.image.specs.Images.{imageA2}
 use Rattle.image.proofs.RoundTrips.{readA2-written}

@@ -1,4 +1,4 @@
-pub mod Agreed
+pub mod Again
 pub mod Numbers
 pub mod Calling
 pub mod Starting

@@ -24,20 +24,21 @@ use Rattle.unit.specs.OnRecords.{actionBytes}
 use Rattle.unit.specs.declared.state.State.{State}
 use Rattle.unit.specs.declared.answer.Action.{Action}
 use Rattle.image.specs.Images.{placeBytes, placesBytes, tailBytes, bodyBytes, wholeBytes, imageA2}
-use Rattle.history.specs.Histories.{one, placesHeld, waitingPhase, waitsAt}
-use Rattle.firmware.specs.Along.{actionsPassing, placesPassing, placesSeen, heldSeen, holdsSeen, waitsSeen}
+use Rattle.history.specs.Histories.{placesHeld, waitingPhase, waitsAt}
+use Rattle.wire.specs.Bytes.{asBit}
+use Rattle.firmware.specs.AlongWords.{actionsPassing, placesPassing, placesSeen, heldSeen, holdsSeen, waitsSeen}
 
 -- the actions at the front of a buffer, counted by their bytes
 pub actionsPassing-counts : (test : ℕ → Partner → Bool) (acts : List Action) (rest : List ℕ)
     → actionsPassing test (length acts) (actionBytes acts ++ rest) ≡ count (λ a. test (a .number) (a .partner)) acts
 unfolding actionsPassing count blocks
 actionsPassing-counts test [] rest = refl
-actionsPassing-counts test (a ∷ acts) rest = ap (_+_ (one (test (a .number) (a .partner)))) (actionsPassing-counts test acts rest)
+actionsPassing-counts test (a ∷ acts) rest = ap (_+_ (asBit (test (a .number) (a .partner)))) (actionsPassing-counts test acts rest)
 
 -- the places of an image, counted by their bytes: by a test of the place that says the same of its phase and partner
 sumOne : (Place → Bool) → List Place → ℕ
 sumOne T [] = 0
-sumOne T (p ∷ ps) = one (T p) + sumOne T ps
+sumOne T (p ∷ ps) = asBit (T p) + sumOne T ps
 
 -- what the phase and the partner of a place's bytes say
 abbrev OfBytes : (ℕ → Partner → Bool) → Holding → Bool
@@ -55,15 +56,15 @@ placesPassing-sums test (p ∷ ps) rest =
     by : (k : Holding)
         → placesPassing test (length ps) (placesBytes ps ++ rest) ≡ sumOne (λ p. OfBytes test (p .holding)) ps
         → placesPassing test (suc (length ps)) (placeBytes (record { holding = k }) ++ (placesBytes ps ++ rest))
-        ≡ one (OfBytes test k) + sumOne (λ p. OfBytes test (p .holding)) ps
-    by Free more = ap (_+_ (one (test 0 (record { kind = 0; high = 0; middle = 0; low = 0 })))) more
-    by (Held d ph p) more = ap (_+_ (one (test (phaseNumber ph) p))) more
+        ≡ asBit (OfBytes test k) + sumOne (λ p. OfBytes test (p .holding)) ps
+    by Free more = ap (_+_ (asBit (test 0 (record { kind = 0; high = 0; middle = 0; low = 0 })))) more
+    by (Held d ph p) more = ap (_+_ (asBit (test (phaseNumber ph) p))) more
 
 -- the sum of a test over the places, and whether one passes
 sum-same : (T U : Place → Bool) (ps : List Place) → ((p : Place) → T p ≡ U p) → sumOne T ps ≡ sumOne U ps
 unfolding sumOne
 sum-same T U [] same = refl
-sum-same T U (p ∷ ps) same = ap₂ (λ b n. one b + n) (same p) (sum-same T U ps same)
+sum-same T U (p ∷ ps) same = ap₂ (λ b n. asBit b + n) (same p) (sum-same T U ps same)
 
 or-left-false : (a b : Bool) → (a || b) ≡ false → a ≡ false
 or-left-false true b h = h
@@ -77,7 +78,7 @@ sum-none : (T : Place → Bool) (ps : List Place) → some T ps ≡ false → su
 unfolding sumOne some
 sum-none T [] none = refl
 sum-none T (p ∷ ps) none =
-    ap₂ (λ b n. one b + n) (or-left-false (T p) (some T ps) none) (sum-none T ps (or-right-false (T p) (some T ps) none))
+    ap₂ (λ b n. asBit b + n) (or-left-false (T p) (some T ps) none) (sum-none T ps (or-right-false (T p) (some T ps) none))
 
 some-sum : (T : Place → Bool) (ps : List Place) → some T ps ≡ true → 1 ≤ sumOne T ps
 unfolding sumOne some
@@ -88,7 +89,7 @@ some-sum T (p ∷ ps) there = by (T p) refl there (some-sum T ps)
         → T p ≡ b
         → (b || some T ps) ≡ true
         → (some T ps ≡ true → 1 ≤ sumOne T ps)
-        → 1 ≤ one b + sumOne T ps
+        → 1 ≤ asBit b + sumOne T ps
     by true is h more = omega arith
     by false is h more =
         let rest = more h in
@@ -117,7 +118,7 @@ sum-zero T ps none = by (some T ps) refl
 sum-held : (ps : List Place) → sumOne (λ p. not (isFree p)) ps ≡ placesHeld ps
 unfolding sumOne placesHeld
 sum-held [] = refl
-sum-held (p ∷ ps) = ap (_+_ (one (not (isFree p)))) (sum-held ps)
+sum-held (p ∷ ps) = ap (_+_ (asBit (not (isFree p)))) (sum-held ps)
 
 -- each test of the bytes is the one of the place
 not-zero : (ph : Phase) → not (eqb (phaseNumber ph) 0) ≡ true

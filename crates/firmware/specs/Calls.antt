@@ -17,7 +17,7 @@ abbrev pub steppedFrom : Started → List ℕ → ℕ → Outcome
 steppedFrom held bytes room =
     cond (eqb (held .code) accepted) (onRecord (held .state) bytes room) (refused (held .code) (held .state))
 
--- "10 for the action buffer, then ..": room is its length
+-- "It equals reading the image, one step and writing it"; "10 for the action buffer, then ..": room is its length
 unfoldable pub onImage : List ℕ → List ℕ → ℕ → Outcome
 onImage image bytes room = cond (leb actionRoom room) (steppedFrom (readA2 image) bytes room) (refused noRoom (readA2 image .state))
 

@@ -1,11 +1,13 @@
--- Only laws speak of what stands here: calls that are written out, to show that the promises over calls can be met.
+-- Examples only: nobody has to believe what stands here.
+-- Calls that are written out, to show that the promises over calls can be met.
 -- From the image that a cold start with X 1 to 2 and n tries wrote, into a buffer of 50 bytes. RBC 5 is the partner that waits.
 -- Defines: shownStart, shownBefore, shownImage, shownOthers, shownRounds, shownShort, shownCalls.
 use Prim.Native.Nat.{ℕ, zero, suc, _-_}
 use mathlib.Core.List.{List, [], _∷_, _++_}
 use lib.ListN.{replicate}
 use Rattle.history.specs.Reaching.{order5, up5, lost5, timeout5, call5}
-use Rattle.firmware.specs.Along.{Lent, seenAlong, lastImage, lentWith}
+use Rattle.firmware.specs.Along.{Lent, seenAlong, lastImage}
+use Rattle.firmware.specs.AlongWords.{lentWith}
 use Rattle.firmware.specs.Starts.{firstImage}
 
 -- the image of the cold start

@@ -12,7 +12,7 @@ use Rattle.unit.specs.States.{limitsOk, sound, noLimits, cold, coldStart}
 use Rattle.unit.specs.OnRecords.{trace, actionRoom, onRecord}
 use Rattle.unit.specs.declared.state.State.{State}
 use Rattle.unit.specs.declared.start.Started.{Started}
-use Rattle.unit.specs.Kept.{weigh}
+use Rattle.wire.specs.Sums.{sum}
 use Rattle.unit.proofs.Effects.{onRecord-limits}
 use Rattle.unit.proofs.Sound.{onRecord-sound}
 use Rattle.history.specs.Histories.{endOf, after}
@@ -21,7 +21,7 @@ use Rattle.unit.proofs.StepAccounts.{total}
 
 -- the places of a cold start weigh nothing, on any scale
 pub cold-light : (σ : Scale) (mine : Partner → Bool) (l : Limits) → total σ mine (coldStart l .state .places) ≡ 0
-unfolding coldStart cold weigh
+unfolding coldStart cold sum
 cold-light σ mine l =
     cond-holds (λ (o : Started). total σ mine (o .state .places) ≡ 0) (limitsOk l) (record { code = accepted; state = cold l })
     (record { code = badLimits; state = cold noLimits })

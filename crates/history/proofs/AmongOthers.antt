@@ -1,3 +1,4 @@
+-- Cross-checks only: rules told a second time.
 -- RBC 5 and RIU 7 wait among others: in each phase that waits both are held up to their n-th timeout, with a row of records of every kind
 -- for others and for nobody before each timeout.
 -- Proves: connecting-held, contacting-held, lost-held, ending-held, among-all-codes, among-orders-codes, among-others-codes.
@@ -21,7 +22,8 @@ use Rattle.place.specs.declared.place.Direction.the-variants.{Outgoing}
 use Rattle.place.specs.declared.place.Place.{Place}
 use Rattle.place.specs.declared.turn.Turn.the-variants.{Released, Sends}
 use Rattle.unit.specs.States.{first, seek, placesOk, sound, cold, coldStart, some}
-use Rattle.unit.specs.Steps.{act, closed, closingActions, turned, step}
+use Rattle.unit.specs.Steps.{act, closed, closingActions, step}
+use Rattle.unit.specs.Searching.{turned}
 use Rattle.unit.specs.Lasts.{recalled}
 use Rattle.unit.specs.OnRecords.{trace, onRecord}
 use Rattle.unit.specs.declared.last.Last.{Last}
@@ -30,7 +32,9 @@ use Rattle.unit.specs.declared.state.State.{State}
 use Rattle.unit.proofs.Rows.{_▹_}
 use Rattle.unit.proofs.Starts.{cold-sound}
 use Rattle.history.specs.Histories.{endOf, after, silent, timeouts, holdsPlace, waitingPhase, waits}
-use Rattle.history.specs.Reaching.{oneToTwo, started, rbc5, timeout5, repeated, oneToNine}
+use Rattle.history.specs.Reaching.{rbc5, timeout5, repeated, oneToNine}
+use Rattle.history.specs.Sums.{started}
+use Rattle.unit.specs.States.{oneToTwo}
 use Rattle.history.specs.Between.{riu7, timeout7, bothConnecting, bothContacting, bothLost, bothEnding, amongAll, amongOrders}
 use Rattle.history.specs.Between.{amongOthers, rounds, beforeLast5, toLast5, beforeLast7, toLast7, BothHeld}
 use Rattle.history.proofs.Along.{after-sound}

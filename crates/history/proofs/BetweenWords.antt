@@ -1,3 +1,4 @@
+-- Cross-checks only: rules told a second time.
 -- What the words of the instances of demand 3 mean: where the others' records stand, what is held and what is freed.
 -- Proves: rounds-more, last-rows, heldUntil-means, bothHeld-means, freed-means, oneMore-means.
 use mathlib.Core.Path.{_≡_, refl}
@@ -10,7 +11,8 @@ use Rattle.record.specs.declared.partner.Partner.{Partner}
 use Rattle.place.specs.Places.{vacant, heldPhase}
 use Rattle.place.specs.declared.phase.Phase.{Phase}
 use Rattle.history.specs.Histories.{after, silent, timeouts, holdsPlace, waits, releasesOf}
-use Rattle.history.specs.Reaching.{started, rbc5, timeout5, repeated}
+use Rattle.history.specs.Reaching.{rbc5, timeout5, repeated}
+use Rattle.history.specs.Sums.{started}
 use Rattle.history.specs.Between.{riu7, timeout7, rounds, beforeLast5, toLast5, beforeLast7, toLast7, HeldUntil, BothHeld, Freed}
 use Rattle.history.specs.Counting.{OneMore}
 

@@ -19,7 +19,8 @@ use Rattle.unit.specs.States.{coldStart}
 use Rattle.unit.specs.OnRecords.{actionRoom, onRecord}
 use Rattle.unit.specs.declared.state.State.{State}
 use Rattle.unit.specs.Kept.{count}
-use Rattle.history.specs.Histories.{after, orders, calls, losses, actions, names, perOrder, perCall, perLoss}
+use Rattle.history.specs.Histories.{after, orders, calls, losses, actions, names}
+use Rattle.history.specs.PerEvent.{perOrder, perCall, perLoss}
 use Rattle.history.specs.Histories.{actionsOf, ordersOf, callsOf, lossesOf}
 use Rattle.unit.proofs.Facts.{limits-tries}
 use Rattle.unit.proofs.Starts.{cold-limits}

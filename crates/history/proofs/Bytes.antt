@@ -9,9 +9,9 @@ use native.Mathlib.Omega.{arith}
 use lib.Dec.{eqb, leb}
 use lib.ListN.{length}
 use borrow.Author.Tests.{eqb-true, ne-eqb, leb-true}
-use Rattle.record.specs.Records.{messageVersion, messageCall, messageMeans, partnerIn, known, lengthOf, reading, readingOk}
-use Rattle.record.specs.Records.{Body, levelBody, missionBody, modeBody, holeBody, orderBody, partnerBody, endAllBody}
-use Rattle.record.specs.Records.{messageBody, bodies, bodyOf, noBody}
+use Rattle.record.specs.Records.{messageVersion, messageCall, messageMeans, partnerIn, known, lengthOf, reading, rowOf, KindRow}
+use Rattle.record.specs.Records.{partnerRow, kinds, noRow}
+use Rattle.record.specs.Ranges.{readingOk}
 use Rattle.wire.specs.Bytes.{byte}
 use Rattle.wire.specs.Refusals.{accepted, wrongLength, unknownKind, outOfRange, notSound}
 use Rattle.record.specs.declared.partner.Partner.{Partner}
@@ -93,11 +93,11 @@ message-tells number version p bytes order call loss =
     (λ neither. (order, call ∙ neither, loss)))
 
 -- what a row of the table of kinds says of the bytes of its records
-abbrev Row : ℕ → Body → Type 0
-Row kind body = (s : List ℕ) → byte s 0 ≡ kind → body .ranges s ≡ true → TellsEvent s (body .means s)
+abbrev RowTells : ℕ → KindRow → Type 0
+RowTells kind body = (s : List ℕ) → byte s 0 ≡ kind → body .ranges s ≡ true → TellsEvent s (body .means s)
 
 -- the kind's byte decides, and for a call the number's
-by-first : (kind : ℕ) (body : Body) (s : List ℕ)
+by-first : (kind : ℕ) (body : KindRow) (s : List ℕ)
     → byte s 0 ≡ kind
     → body .ranges s ≡ true
     → (isOrder s ≡ isOrder (kind ∷ []))
@@ -107,21 +107,21 @@ by-first kind body s e ok =
     (ap (λ k. isOrder (k ∷ [])) e, ap (λ k. isCall (k ∷ 0 ∷ 0 ∷ 0 ∷ 0 ∷ byte s 5 ∷ [])) e, ap (λ k. isLoss (k ∷ [])) e)
 
 -- the table of kinds, row by row
-rows-tell : Numbered Row 0 bodies
+rows-tell : Numbered RowTells 0 kinds
 rows-tell =
     (λ s e ok. true-false false ok refl)
-    ▹ by-first 1 levelBody
-    ▹ by-first 2 missionBody
-    ▹ by-first 3 modeBody
-    ▹ by-first 4 holeBody
-    ▹ by-first 5 orderBody
-    ▹ by-first 6 (partnerBody Drop)
-    ▹ by-first 7 endAllBody
-    ▹ by-first 8 (partnerBody Up)
-    ▹ by-first 9 (partnerBody Loss)
-    ▹ by-first 10 (partnerBody Timeout)
+    ▹ by-first 1 (rowOf 1)
+    ▹ by-first 2 (rowOf 2)
+    ▹ by-first 3 (rowOf 3)
+    ▹ by-first 4 (rowOf 4)
+    ▹ by-first 5 (rowOf 5)
+    ▹ by-first 6 (partnerRow Drop)
+    ▹ by-first 7 (rowOf 7)
+    ▹ by-first 8 (partnerRow Up)
+    ▹ by-first 9 (partnerRow Loss)
+    ▹ by-first 10 (partnerRow Timeout)
     ▹ (λ s e ok.
-    let told = by-first 11 messageBody s e ok in
+    let told = by-first 11 (rowOf 11) s e ok in
     message-tells (byte s 5) (byte s 6) (partnerIn s) s (told .0) (told .1) (told .2))
     ▹ tt
 
@@ -131,8 +131,8 @@ unfolding reading
 reading-tells [] = tt
 reading-tells (kind ∷ body) =
     let s = kind ∷ body in
-    let row = numbered-at Row 0 bodies noBody rows-tell (λ i s e ok. true-false false ok refl) kind s (omega arith) in
-    let ranged = cond-case (Tells s) (bodyOf kind .ranges s) (Meant (bodyOf kind .means s)) (Refused outOfRange) row (λ outside. tt) in
+    let row = numbered-at RowTells 0 kinds noRow rows-tell (λ i s e ok. true-false false ok refl) kind s (omega arith) in
+    let ranged = cond-case (Tells s) (rowOf kind .ranges s) (Meant (rowOf kind .means s)) (Refused outOfRange) row (λ outside. tt) in
     let sized = cond-holds (Tells s) (eqb (length s) (lengthOf kind)) _ (Refused wrongLength) ranged tt in
     cond-holds (Tells s) (known kind) _ (Refused unknownKind) sized tt
 

@@ -26,7 +26,8 @@ use Rattle.unit.specs.declared.last.Last.{Last}
 use Rattle.unit.specs.declared.state.State.{State}
 use Rattle.unit.specs.declared.answer.Action.{Action}
 use Rattle.unit.specs.Kept.{count}
-use Rattle.history.specs.Histories.{sumOver, after, summed, one, isOrder, isCall, isLoss, acceptedAs, eventNames, ofReading}
+use Rattle.history.specs.Histories.{sumOver, after, summed, isOrder, isCall, isLoss, acceptedAs, eventNames, ofReading}
+use Rattle.wire.specs.Bytes.{asBit}
 use Rattle.unit.proofs.Counts.{nothing, count-same}
 use Rattle.unit.proofs.Balances.{Sense, Balance}
 use Rattle.unit.proofs.Scales.{Scale, Balanced, brings, counted}
@@ -117,7 +118,7 @@ module _ (weight : Phase → ℕ) (counts : ℕ → Bool) (order call loss : ℕ
 
   -- what a record has at the three rates
   abbrev shares : Bool → Bool → Bool → ℕ
-  shares a b c = order * one a + (call * one b + loss * one c)
+  shares a b c = order * asBit a + (call * asBit b + loss * asBit c)
 
   -- nothing for a record that is refused
   refused-shares : (a b c ok : Bool) → ok ≡ false → shares (a && ok) (b && ok) (c && ok) ≡ 0

@@ -23,8 +23,10 @@ use Rattle.place.specs.Places.{vacant, isFree, heldPhase}
 use Rattle.place.specs.declared.phase.Phase.the-variants.{Contacting, Open, Ending}
 use Rattle.unit.proofs.Rows.{_▹_}
 use Rattle.history.specs.Histories.{after}
-use Rattle.history.specs.EitherOrder.{Delivered, recordsOf, DifferAll, Different, versions, answerOf, next, alone, Alike}
-use Rattle.history.specs.EitherOrder.{Permuted}
+use Rattle.history.specs.EitherOrder.{Delivered, versions, answerOf, next, alone, Alike}
+use Rattle.history.specs.Interleaved.{recordsOf}
+use Rattle.history.specs.Permuted.{DifferAll, Different}
+use Rattle.history.specs.Permuted.{Permuted}
 use Rattle.history.specs.Interleaved.{ofPartner, Interleaved, answersTo}
 use Rattle.history.specs.Deliveries.{rbcOne, rbcTwo, riuThree, versionOne, timeoutTwo, versionTwo, upThree, dropFour}
 use Rattle.history.specs.Deliveries.{codeAndActions}

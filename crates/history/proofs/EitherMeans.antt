@@ -1,3 +1,4 @@
+-- Cross-checks only: rules told a second time.
 -- Request Q-11: what the words of its promises mean, in the bytes of the records and by place in a row.
 -- Proves: delivered-partner, delivered-kinds, delivered-every, isVersion-means, versions-counts, differ-means, differAll-means,
 -- different-means, compared-means, alike-means, alike-last, permuted-sums, permuted-insert, toRbc-means, answerOf-means, next-after,
@@ -15,8 +16,10 @@ use Rattle.wire.specs.Bytes.{byte}
 use Rattle.wire.specs.Refusals.{wrongLength, unknownKind, outOfRange}
 use Rattle.wire.proofs.Tests.{and-left, and-right, and-both, cond-case, cond-holds, true-false}
 use Rattle.record.specs.Partners.{samePartner, rbc, namedOk}
-use Rattle.record.specs.Records.{messageVersion, messageCall, messageEnded, messageMeans, messageOk, highestVersion, partnerIn}
-use Rattle.record.specs.Records.{Body, messageBody, bodies, bodyOf, noBody, known, lengthOf, reading, readingNumber, readingOk}
+use Rattle.record.specs.Records.{messageVersion, messageCall, messageEnded, messageMeans, messageOk, highestVersion, partnerIn, rowOf}
+use Rattle.record.specs.Records.{known, lengthOf, reading, KindRow, kinds, noRow}
+use Rattle.record.specs.Ranges.{readingNumber}
+use Rattle.record.specs.Ranges.{readingOk}
 use Rattle.record.specs.declared.partner.Partner.{Partner}
 use Rattle.record.specs.declared.event.PartnerEvent.{PartnerEvent}
 use Rattle.record.specs.declared.event.PartnerEvent.the-variants.{Drop, Up, Loss, Timeout, Version, Ended}
@@ -28,15 +31,18 @@ use Rattle.record.proofs.Partners.{samePartner-means}
 use Rattle.record.proofs.Ranges.{reading-ok}
 use Rattle.unit.specs.Lasts.{toRbc}
 use Rattle.unit.specs.Steps.{Outcome}
-use Rattle.unit.specs.Kept.{once, isVersion}
+use Rattle.unit.specs.Kept.{isVersion}
+use Rattle.wire.specs.Bytes.{asBit}
 use Rattle.unit.specs.OnRecords.{trace}
 use Rattle.unit.specs.declared.last.Last.{Last}
 use Rattle.unit.specs.declared.state.State.{State}
 use Rattle.unit.specs.declared.answer.Action.{Action}
 use Rattle.unit.proofs.Rows.{_▹_, Numbered, numbered-at}
 use Rattle.history.specs.Histories.{endOf, after}
-use Rattle.history.specs.EitherOrder.{Delivered, Differ, DifferAll, Different, versions, Compared}
-use Rattle.history.specs.EitherOrder.{Reply, answerOf, next, alone, Alike, Permuted, empty, keeps, swaps, joins}
+use Rattle.history.specs.EitherOrder.{Delivered, Differ, versions, Compared}
+use Rattle.history.specs.Permuted.{DifferAll, Different}
+use Rattle.history.specs.EitherOrder.{Reply, answerOf, next, alone, Alike}
+use Rattle.history.specs.Permuted.{Permuted, empty, keeps, swaps, joins}
 use Rattle.history.proofs.EitherOrder.{same-state}
 
 -- the kind of a record by its event, and of a message its number and version
@@ -82,7 +88,7 @@ ended-number number version ok first second =
     by false true c one two ok = true-false true refl two
     by false false c one two ok = and-left c _ ok
 
-message-told : (s : List ℕ) → byte s 0 ≡ 11 → messageBody .ranges s ≡ true → ToldEvent s (messageBody .means s)
+message-told : (s : List ℕ) → byte s 0 ≡ 11 → (rowOf 11) .ranges s ≡ true → ToldEvent s ((rowOf 11) .means s)
 message-told s kind ok =
     let number = byte s 5 in
     let version = byte s 6 in
@@ -97,10 +103,10 @@ message-told s kind ok =
     (λ neither. (refl, (kind, ended-number number version fits other neither))))
 
 -- the table of kinds, row by row
-abbrev Row : ℕ → Body → Type 0
-Row kind body = (s : List ℕ) → byte s 0 ≡ kind → body .ranges s ≡ true → ToldEvent s (body .means s)
+abbrev RowTold : ℕ → KindRow → Type 0
+RowTold kind body = (s : List ℕ) → byte s 0 ≡ kind → body .ranges s ≡ true → ToldEvent s (body .means s)
 
-rows-told : Numbered Row 0 bodies
+rows-told : Numbered RowTold 0 kinds
 rows-told =
     (λ s e ok. tt)
     ▹ (λ s e ok. tt)
@@ -121,8 +127,8 @@ unfolding reading
 reading-told [] = tt
 reading-told (kind ∷ body) =
     let s = kind ∷ body in
-    let row = numbered-at Row 0 bodies noBody rows-told (λ i s e ok. tt) kind s (omega arith) in
-    let ranged = cond-case (Told s) (bodyOf kind .ranges s) (Meant (bodyOf kind .means s)) (Refused outOfRange) row (λ outside. tt) in
+    let row = numbered-at RowTold 0 kinds noRow rows-told (λ i s e ok. tt) kind s (omega arith) in
+    let ranged = cond-case (Told s) (rowOf kind .ranges s) (Meant (rowOf kind .means s)) (Refused outOfRange) row (λ outside. tt) in
     let sized = cond-holds (Told s) (eqb (length s) (lengthOf kind)) _ (Refused wrongLength) ranged tt in
     cond-holds (Told s) (known kind) _ (Refused unknownKind) sized tt
 
@@ -198,7 +204,7 @@ kinds-other s kind is (inr seven) (inr (inr (inr (inr (inr ended))))) = absurd (
 abbrev IsNamed : Event → Type 0
 IsNamed e = (p : Partner) × (own : PartnerEvent) × (e ≡ Named p own)
 
-message-named : (s : List ℕ) → byte s 0 ≡ 11 → Kinds s → IsNamed (messageBody .means s)
+message-named : (s : List ℕ) → byte s 0 ≡ 11 → Kinds s → IsNamed ((rowOf 11) .means s)
 message-named s is (inl six) = absurd (omega arith)
 message-named s is (inr (inl eight)) = absurd (omega arith)
 message-named s is (inr (inr (inl nine))) = absurd (omega arith)
@@ -212,10 +218,10 @@ abbrev Finds : List ℕ → Reading → Type 0
 Finds s (Meant e) = Kinds s → IsNamed e
 Finds s (Refused r) = Unit
 
-abbrev NamedRow : ℕ → Body → Type 0
+abbrev NamedRow : ℕ → KindRow → Type 0
 NamedRow kind body = (s : List ℕ) → byte s 0 ≡ kind → body .ranges s ≡ true → Kinds s → IsNamed (body .means s)
 
-rows-named : Numbered NamedRow 0 bodies
+rows-named : Numbered NamedRow 0 kinds
 rows-named =
     (λ s e ok. kinds-other s 0 e (inl (lit≤ tt)))
     ▹ (λ s e ok. kinds-other s 1 e (inl (lit≤ tt)))
@@ -236,8 +242,8 @@ unfolding reading
 reading-finds [] = tt
 reading-finds (kind ∷ body) =
     let s = kind ∷ body in
-    let row = numbered-at NamedRow 0 bodies noBody rows-named (λ i s e ok. true-false false ok refl) kind s (omega arith) in
-    let ranged = cond-case (Finds s) (bodyOf kind .ranges s) (Meant (bodyOf kind .means s)) (Refused outOfRange) row (λ outside. tt) in
+    let row = numbered-at NamedRow 0 kinds noRow rows-named (λ i s e ok. true-false false ok refl) kind s (omega arith) in
+    let ranged = cond-case (Finds s) (rowOf kind .ranges s) (Meant (rowOf kind .means s)) (Refused outOfRange) row (λ outside. tt) in
     let sized = cond-holds (Finds s) (eqb (length s) (lengthOf kind)) _ (Refused wrongLength) ranged tt in
     cond-holds (Finds s) (known kind) _ (Refused unknownKind) sized tt
 
@@ -294,7 +300,7 @@ versions-counts = (refl, (λ x xs. by xs (isVersion (x .event)) (isVersion-means
   where
     by : {P : Type 0} (xs : List Delivered) (b : Bool)
         → (b ≡ true) ↔ P
-        → (P → once b + versions xs ≡ suc (versions xs)) × ((P → ⊥) → once b + versions xs ≡ versions xs)
+        → (P → asBit b + versions xs ≡ suc (versions xs)) × ((P → ⊥) → asBit b + versions xs ≡ versions xs)
     by xs true is = ((λ h. omega arith), (λ h. absurd (h (is .0 refl))))
     by xs false is = ((λ h. true-false false (is .1 h) refl), (λ h. omega arith))
 
@@ -405,7 +411,7 @@ some-version : (xs : List Delivered) (d : Delivered) (i : ℕ)
     → 1 ≤ versions xs
 unfolding versions
 some-version [] d i below is = absurd (omega arith)
-some-version (x ∷ xs) d zero below is = let version = ap once is in omega arith
+some-version (x ∷ xs) d zero below is = let version = ap asBit is in omega arith
 some-version (x ∷ xs) d (suc i) below is = let later = some-version xs d i (omega arith) is in omega arith
 
 no-version : (xs : List Delivered) (d : Delivered)
@@ -415,7 +421,7 @@ unfolding versions
 no-version [] d none = refl
 no-version (x ∷ xs) d none = by (isVersion (x .event)) refl (no-version xs d (λ i below. none (suc i) (omega arith)))
   where
-    by : (b : Bool) → isVersion (x .event) ≡ b → versions xs ≡ 0 → once b + versions xs ≡ 0
+    by : (b : Bool) → isVersion (x .event) ≡ b → versions xs ≡ 0 → asBit b + versions xs ≡ 0
     by true is later = absurd (none 0 (omega arith) is)
     by false is later = omega arith
 
@@ -443,7 +449,7 @@ compared-means xs d = (to xs, from xs)
     to [] few i j first below one two = omega arith
     to (x ∷ xs) few i zero first below one two = omega arith
     to (x ∷ xs) few zero (suc j) first below one two =
-        let version = ap once one in
+        let version = ap asBit one in
         let later = some-version xs d j (omega arith) two in
         omega arith
     to (x ∷ xs) few (suc i) (suc j) first below one two = to xs (omega arith) i j (omega arith) (omega arith) one two
@@ -461,7 +467,7 @@ compared-means xs d = (to xs, from xs)
         by (isVersion (x .event)) refl
         (from xs (λ i j first below. each (suc i) (suc j) (omega arith) (omega arith)))
       where
-        by : (b : Bool) → isVersion (x .event) ≡ b → versions xs ≤ 1 → once b + versions xs ≤ 1
+        by : (b : Bool) → isVersion (x .event) ≡ b → versions xs ≤ 1 → asBit b + versions xs ≤ 1
         by true is few =
             let none = no-version xs d (λ j below. each 0 (suc j) (omega arith) (omega arith) is) in
             omega arith

@@ -13,7 +13,8 @@ use Rattle.record.specs.declared.event.Event.the-variants.{Named}
 use Rattle.unit.specs.Lasts.{toRbc, recalled}
 use Rattle.unit.specs.States.{sound}
 use Rattle.unit.specs.Steps.{step}
-use Rattle.unit.specs.Kept.{once, count, isVersion}
+use Rattle.unit.specs.Kept.{count, isVersion}
+use Rattle.wire.specs.Bytes.{asBit}
 use Rattle.unit.specs.OnRecords.{trace, actionRoom, onRecord}
 use Rattle.unit.specs.declared.last.Last.{Last}
 use Rattle.unit.specs.declared.last.Last.the-variants.{Known}
@@ -24,8 +25,11 @@ use Rattle.unit.proofs.Recalled.{recalled-none, onRecord-last}
 use Rattle.unit.proofs.Effects.{onRecord-step}
 use Rattle.unit.proofs.Sound.{onRecord-sound}
 use Rattle.history.specs.Histories.{endOf, after}
-use Rattle.history.specs.EitherOrder.{Delivered, recordsOf, Differ, DifferAll, Different, versions, Compared}
-use Rattle.history.specs.EitherOrder.{answerOf, next, alone, Alike, Permuted, empty, keeps, swaps, joins}
+use Rattle.history.specs.EitherOrder.{Delivered, Differ, versions, Compared}
+use Rattle.history.specs.Interleaved.{recordsOf}
+use Rattle.history.specs.Permuted.{DifferAll, Different}
+use Rattle.history.specs.EitherOrder.{answerOf, next, alone, Alike}
+use Rattle.history.specs.Permuted.{Permuted, empty, keeps, swaps, joins}
 
 pub next-sound : (s : State) → sound s ≡ true → (x : Delivered) → sound (next s x) ≡ true
 next-sound s ok x = onRecord-sound s (x .bytes) actionRoom ok
@@ -98,7 +102,7 @@ still s ok x other last =
     ap (λ o. recalled last (o .actions)) (stepped s ok x) ∙ quiet-last s (x .partner) (x .event) other last
 
 -- two that are not both message 32
-not-both : (a b : Bool) (k : ℕ) → once a + (once b + k) ≤ 1 → (a && b) ≡ false
+not-both : (a b : Bool) (k : ℕ) → asBit a + (asBit b + k) ≤ 1 → (a && b) ≡ false
 not-both true true k few = absurd (omega arith)
 not-both true false k few = refl
 not-both false b k few = refl
@@ -228,7 +232,7 @@ different-permuted (joins p q) different = different-permuted q (different-permu
 versions-permuted : {xs ys : List Delivered} → Permuted xs ys → versions ys ≡ versions xs
 unfolding versions
 versions-permuted empty = refl
-versions-permuted (keeps x p) = ap (_+_ (once (isVersion (x .event)))) (versions-permuted p)
+versions-permuted (keeps x p) = ap (_+_ (asBit (isVersion (x .event)))) (versions-permuted p)
 versions-permuted (swaps x y xs) = omega arith
 versions-permuted (joins p q) = versions-permuted q ∙ versions-permuted p
 

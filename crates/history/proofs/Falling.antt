@@ -5,7 +5,7 @@ use mathlib.Core.Bool.{true}
 use mathlib.Core.List.{[], _∷_}
 use Prim.Native.Nat.{ℕ, _+_, _-_, _≤_}
 use native.Mathlib.Omega.{arith}
-use Rattle.place.specs.Table.{table, closing, play}
+use Rattle.place.specs.Table.{table, closing}
 use Rattle.place.specs.declared.phase.Phase.{Phase}
 use Rattle.place.specs.declared.phase.Phase.the-variants.{Connecting, Contacting, Open, Lost, Ending}
 use Rattle.place.specs.declared.limits.Limits.{Limits}
@@ -78,8 +78,8 @@ module _ (l : Limits) (k : Numbers) (some-try : 1 ≤ l .tries) (fair : Fair (l 
   closings (Lost t) = omega arith
   closings (Ending t) = omega arith
 
-  -- nor any cell of the table, with what its column brings
-  rows : (ph : Phase) (v : ℕ) → Beside (λ c b. Turned atMost σ ph b (play l ph v c)) (table ph) (σ .columns)
+  -- nor any entry of the table, with what its column brings
+  rows : (ph : Phase) (v : ℕ) → Beside (λ t b. Turned atMost σ ph b t) (table l v ph) (σ .columns)
   rows (Connecting t) v =
       omega arith
       ▹ omega arith

@@ -1,26 +1,20 @@
 -- Demand 3, the waiting partner, in any history from a cold start.
--- Proves: after-append, cold-waiting, cold-released-once.
-use mathlib.Core.Path.{_≡_, refl, ap, _∙_}
+-- Proves: cold-waiting, cold-released-once.
+use mathlib.Core.Path.{_≡_, ap, _∙_}
 use mathlib.Core.Bool.{true, false}
-use mathlib.Core.List.{List, [], _∷_, _++_}
+use mathlib.Core.List.{List, _++_}
 use Prim.Native.Nat.{ℕ, _≤_}
 use native.Mathlib.Omega.{arith}
 use Rattle.wire.specs.Refusals.{accepted}
 use Rattle.record.specs.declared.partner.Partner.{Partner}
 use Rattle.place.specs.declared.limits.Limits.{Limits}
 use Rattle.unit.specs.States.{sound, coldStart}
-use Rattle.unit.specs.OnRecords.{actionRoom, onRecord, trace}
-use Rattle.unit.specs.declared.state.State.{State}
 use Rattle.unit.proofs.Starts.{cold-limits, cold-sound}
-use Rattle.history.specs.Histories.{endOf, after, silent, timeouts, holdsPlace, waits, releasesOf, timeoutsToRelease}
+use Rattle.history.specs.Histories.{after, silent, timeouts, holdsPlace, waits, releasesOf}
+use Rattle.history.specs.PerEvent.{timeoutsToRelease}
 use Rattle.history.proofs.Along.{after-sound, after-limits}
+use Rattle.history.proofs.Leads.{after-append}
 use Rattle.history.proofs.Waiting.{waiting, released-once}
-
--- a history, then another
-pub after-append : (s : State) (history later : List (List ℕ)) → after s (history ++ later) ≡ after (after s history) later
-unfolding after endOf trace
-after-append s [] later = refl
-after-append s (bytes ∷ history) later = after-append (onRecord s bytes actionRoom .state) history later
 
 -- in a history from a cold start, a partner that waits after it and is named by nothing but timeouts in the rest
 module _

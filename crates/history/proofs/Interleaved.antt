@@ -11,12 +11,15 @@ use Rattle.record.specs.declared.partner.Partner.{Partner}
 use Rattle.record.proofs.Partners.{same-refl, same-eq}
 use Rattle.wire.proofs.Tests.{true-false}
 use Rattle.unit.specs.States.{sound}
-use Rattle.unit.specs.Kept.{once, isVersion}
+use Rattle.unit.specs.Kept.{isVersion}
+use Rattle.wire.specs.Bytes.{asBit}
 use Rattle.unit.specs.OnRecords.{trace, actionRoom, onRecord}
 use Rattle.unit.specs.declared.state.State.{State}
 use Rattle.unit.proofs.Apart.{Seen, named-follows, seen-here, other-sym}
 use Rattle.history.specs.Histories.{endOf, after}
-use Rattle.history.specs.EitherOrder.{Delivered, recordsOf, Differ, DifferAll, versions, answerOf, next, alone, Alike}
+use Rattle.history.specs.EitherOrder.{Delivered, Differ, versions, answerOf, next, alone, Alike}
+use Rattle.history.specs.Interleaved.{recordsOf}
+use Rattle.history.specs.Permuted.{DifferAll}
 use Rattle.history.specs.Interleaved.{ofPartner, Interleaved, answersTo}
 use Rattle.history.proofs.EitherOrder.{next-sound, stepped, either-answers, either-alike, either-same}
 use Rattle.history.proofs.EitherOrder.{alike-next, alike-after, alike-same}
@@ -249,11 +252,11 @@ bytes-versions [] [] same = refl
 bytes-versions [] (y ∷ ys) same = absurd (let z : _≡_ {A = ℕ} 0 1 = cc in omega arith)
 bytes-versions (x ∷ xs) [] same = absurd (let z : _≡_ {A = ℕ} 0 1 = cc in omega arith)
 bytes-versions (x ∷ xs) (y ∷ ys) same =
-    ap₂ _+_ (ap (λ e. once (isVersion e)) (bytes-event x y (cc))) (bytes-versions xs ys (cc))
+    ap₂ _+_ (ap (λ e. asBit (isVersion e)) (bytes-event x y (cc))) (bytes-versions xs ys (cc))
 
 first-versions : {x : Delivered} {ys zs : List Delivered} → First x ys zs → versions (x ∷ zs) ≡ versions ys
 unfolding versions
-first-versions {x} (at y ys same) = ap (λ e. once (isVersion e) + versions ys) (bytes-event x y same)
+first-versions {x} (at y ys same) = ap (λ e. asBit (isVersion e) + versions ys) (bytes-event x y same)
 first-versions {x} (past y {ys} {zs} other first) =
     let later = first-versions first in
     omega arith
@@ -264,7 +267,7 @@ interleaved-versions [] [] same = refl
 interleaved-versions [] (y ∷ ys) same = none-left y ys same
 interleaved-versions (x ∷ xs) ys same =
     let (zs, first, later) = interleaved-first x xs ys same in
-    ap (_+_ (once (isVersion (x .event)))) (interleaved-versions xs zs later) ∙ first-versions first
+    ap (_+_ (asBit (isVersion (x .event)))) (interleaved-versions xs zs later) ∙ first-versions first
 
 -- a partner has no more messages 32 than the row
 own-versions : (p : Partner) (xs : List Delivered) → versions (ofPartner p xs) ≤ versions xs
@@ -274,7 +277,7 @@ own-versions p (x ∷ xs) = by (samePartner p (x .partner)) (own-versions p xs)
   where
     by : (b : Bool)
         → versions (ofPartner p xs) ≤ versions xs
-        → versions (cond b (x ∷ []) [] ++ ofPartner p xs) ≤ once (isVersion (x .event)) + versions xs
+        → versions (cond b (x ∷ []) [] ++ ofPartner p xs) ≤ asBit (isVersion (x .event)) + versions xs
     by true few = omega arith
     by false few = omega arith
 
@@ -288,11 +291,11 @@ versions-own p x xs all = by (samePartner p (x .partner)) (isVersion (x .event))
     by : (b c : Bool)
         → isVersion (x .event) ≡ c
         → versions (ofPartner p xs) ≤ versions xs
-        → versions (cond b (x ∷ []) [] ++ ofPartner p xs) ≡ once (isVersion (x .event)) + versions xs
+        → versions (cond b (x ∷ []) [] ++ ofPartner p xs) ≡ asBit (isVersion (x .event)) + versions xs
         → (c ≡ true → b ≡ true) × (versions (ofPartner p xs) ≡ versions xs)
     by true c is few same = ((λ h. refl), omega arith)
-    by false true is few same = absurd (let version = ap once is in omega arith)
-    by false false is few same = ((λ h. h), (let other = ap once is in omega arith))
+    by false true is few same = absurd (let version = ap asBit is in omega arith)
+    by false false is few same = ((λ h. h), (let other = ap asBit is in omega arith))
 
 -- two of different partners are then not both message 32
 not-two : (p : Partner) (x y : Delivered)
@@ -306,7 +309,7 @@ not-two p x y other mine theirs = by (isVersion (x .event)) (isVersion (y .event
     by : (a b : Bool)
         → (a ≡ true → samePartner p (x .partner) ≡ true)
         → (b ≡ true → samePartner p (y .partner) ≡ true)
-        → once a + (once b + 0) ≤ 1
+        → asBit a + (asBit b + 0) ≤ 1
     by true true here there =
         true-false (samePartner (x .partner) (y .partner))
         (subst (λ q. samePartner q (y .partner) ≡ true) (same-eq p (x .partner) (here refl)) (there refl))

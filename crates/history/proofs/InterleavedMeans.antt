@@ -1,3 +1,4 @@
+-- Cross-checks only: rules told a second time.
 -- Request Q-11: what a partner's own row, its answers and a mixture of rows mean; a row with one event of each partner is a case of them.
 -- Proves: ofPartner-one, ofPartner-append, answersTo-one, answersTo-append, interleaved-sums, interleaved-swaps, versions-own-means,
 -- permuted-interleaved.
@@ -13,12 +14,15 @@ use Rattle.wire.proofs.Tests.{true-false}
 use Rattle.record.specs.Partners.{samePartner}
 use Rattle.record.specs.declared.partner.Partner.{Partner}
 use Rattle.record.proofs.Partners.{same-eq, samePartner-means}
-use Rattle.unit.specs.Kept.{once, isVersion}
+use Rattle.unit.specs.Kept.{isVersion}
+use Rattle.wire.specs.Bytes.{asBit}
 use Rattle.unit.specs.OnRecords.{trace}
 use Rattle.unit.specs.declared.state.State.{State}
 use Rattle.history.specs.Histories.{endOf, after}
-use Rattle.history.specs.EitherOrder.{Delivered, recordsOf, Differ, DifferAll, Different, versions, answerOf, next, alone}
-use Rattle.history.specs.EitherOrder.{Permuted, empty, keeps, swaps, joins}
+use Rattle.history.specs.EitherOrder.{Delivered, Differ, versions, answerOf, next, alone}
+use Rattle.history.specs.Interleaved.{recordsOf}
+use Rattle.history.specs.Permuted.{DifferAll, Different}
+use Rattle.history.specs.Permuted.{Permuted, empty, keeps, swaps, joins}
 use Rattle.history.specs.Interleaved.{ofPartner, Interleaved, answersTo}
 use Rattle.history.proofs.EitherOrder.{different-permuted}
 use Rattle.history.proofs.Interleaved.{First, at, past, none-left, interleaved-first, versions-own}
@@ -198,10 +202,10 @@ versions-own-means p xs d = (to xs, from xs)
             → isVersion (x .event) ≡ c
             → (c ≡ true → b ≡ true)
             → versions (ofPartner p xs) ≡ versions xs
-            → versions (cond b (x ∷ []) [] ++ ofPartner p xs) ≡ once (isVersion (x .event)) + versions xs
+            → versions (cond b (x ∷ []) [] ++ ofPartner p xs) ≡ asBit (isVersion (x .event)) + versions xs
         by true c is own later = omega arith
         by false true is own later = true-false false (own refl) refl
-        by false false is own later = let other = ap once is in omega arith
+        by false false is own later = let other = ap asBit is in omega arith
 
 -- a row with one event of each partner, in any order, is a mixture of rows of one: `row-alike` and `row-same` are of that case
 -- promise

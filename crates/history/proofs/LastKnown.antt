@@ -21,7 +21,7 @@ use Rattle.unit.specs.declared.start.Started.{Started}
 use Rattle.unit.specs.declared.state.State.{State}
 use Rattle.unit.specs.declared.answer.Action.{Action}
 use Rattle.unit.proofs.Counts.{count-append}
-use Rattle.unit.proofs.Agreed.Meant.{sound-places, sound-last}
+use Rattle.unit.proofs.Again.Meant.{sound-places, sound-last}
 use Rattle.unit.proofs.Recalled.{recalled-append, recalled-none, onRecord-last, onRecord-named}
 use Rattle.unit.proofs.Sound.{onRecord-sound}
 use Rattle.unit.proofs.Starts.{cold-sound}

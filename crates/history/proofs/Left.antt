@@ -21,9 +21,11 @@ use Rattle.place.specs.declared.place.Direction.{Direction}
 use Rattle.place.specs.declared.place.Holding.{Holding}
 use Rattle.place.specs.declared.place.Holding.the-variants.{Free, Held}
 use Rattle.place.specs.declared.place.Place.{Place}
-use Rattle.unit.specs.Kept.{here, once, weigh}
+use Rattle.unit.specs.Kept.{here}
+use Rattle.wire.specs.Bytes.{asBit}
+use Rattle.wire.specs.Sums.{sum}
 use Rattle.unit.proofs.Facts.{bad, PlacesFacts}
-use Rattle.history.specs.Histories.{one, waitingPhase, waitsAt, waits}
+use Rattle.history.specs.Histories.{waitingPhase, waitsAt, waits}
 use Rattle.unit.proofs.Balances.{atMost}
 use Rattle.unit.proofs.Scales.{Scale, Balanced, weightIn}
 use Rattle.unit.proofs.StepAccounts.{total}
@@ -72,36 +74,36 @@ module _ (n : ℕ) (p : Partner) where
   left-some (Ending t) = omega arith
 
   -- so to a partner that holds a place
-  pub held-left : (ps : List Place) → weigh (here (holds p)) ps ≤ leftTo n p ps
-  unfolding weigh
+  pub held-left : (ps : List Place) → sum (here (holds p)) ps ≤ leftTo n p ps
+  unfolding sum
   held-left [] = omega arith
   held-left (place ∷ ps) =
       let first = by (place .holding) in
       let rest = held-left ps in
       omega arith
     where
-      by-test : (b : Bool) (v : ℕ) → 1 ≤ v → once b ≤ cond b v 0
+      by-test : (b : Bool) (v : ℕ) → 1 ≤ v → asBit b ≤ cond b v 0
       by-test true v h = h
       by-test false v h = omega arith
 
-      by : (k : Holding) → once (holdsIn p k) ≤ weightIn (lefts n) (samePartner p) k
+      by : (k : Holding) → asBit (holdsIn p k) ≤ weightIn (lefts n) (samePartner p) k
       by Free = omega arith
       by (Held d ph q) = by-test (samePartner p q) (left n ph) (left-some ph)
 
   -- to one that holds none, nothing
-  pub none-left : (ps : List Place) → weigh (here (holds p)) ps ≡ 0 → leftTo n p ps ≡ 0
-  unfolding weigh
+  pub none-left : (ps : List Place) → sum (here (holds p)) ps ≡ 0 → leftTo n p ps ≡ 0
+  unfolding sum
   none-left [] h = refl
   none-left (place ∷ ps) h =
       let first = by (place .holding) (omega arith) in
       let rest = none-left ps (omega arith) in
       omega arith
     where
-      by-test : (b : Bool) (v : ℕ) → once b ≡ 0 → cond b v 0 ≡ 0
+      by-test : (b : Bool) (v : ℕ) → asBit b ≡ 0 → cond b v 0 ≡ 0
       by-test true v h = absurd (omega arith)
       by-test false v h = refl
 
-      by : (k : Holding) → once (holdsIn p k) ≡ 0 → weightIn (lefts n) (samePartner p) k ≡ 0
+      by : (k : Holding) → asBit (holdsIn p k) ≡ 0 → weightIn (lefts n) (samePartner p) k ≡ 0
       by Free h = refl
       by (Held d ph q) h = by-test (samePartner p q) (left n ph) h
 
@@ -121,7 +123,7 @@ module _ (l : Limits) (some-try : 1 ≤ l .tries) (p : Partner) where
       (λ other. omega arith)
 
   -- so has each phase, or its place is not sound
-  phase-left : (d : Direction) (ph : Phase) (q : Partner) → left n ph + one (waitingPhase ph) ≤ (n + 1) + bad l (seat d ph q)
+  phase-left : (d : Direction) (ph : Phase) (q : Partner) → left n ph + asBit (waitingPhase ph) ≤ (n + 1) + bad l (seat d ph q)
   phase-left d (Connecting t) q = tried t (namedOk q) (fits d (Connecting t) q)
   phase-left d (Contacting t) q = tried t (namedOk q) (fits d (Contacting t) q)
   phase-left d Open q = omega arith
@@ -130,35 +132,35 @@ module _ (l : Limits) (some-try : 1 ≤ l .tries) (p : Partner) where
 
   -- to a partner that waits one less is left than to one that does not
   waits-left : (ps : List Place)
-      → leftTo n p ps + weigh (here (waitsAt p)) ps
-      ≤ (n + 1) * weigh (here (holds p)) ps + weigh (bad l) ps
-  unfolding weigh
+      → leftTo n p ps + sum (here (waitsAt p)) ps
+      ≤ (n + 1) * sum (here (holds p)) ps + sum (bad l) ps
+  unfolding sum
   waits-left [] = omega arith
   waits-left (place ∷ ps) =
       let first = by (place .holding) in
       let rest = waits-left ps in
       omega arith
     where
-      by-test : (b w : Bool) (v k : ℕ) → v + one w ≤ (n + 1) + k → cond b v 0 + one (b && w) ≤ (n + 1) * one b + k
+      by-test : (b w : Bool) (v k : ℕ) → v + asBit w ≤ (n + 1) + k → cond b v 0 + asBit (b && w) ≤ (n + 1) * asBit b + k
       by-test true w v k h = omega arith
       by-test false w v k h = omega arith
 
       by : (k : Holding)
-          → weightIn (lefts n) (samePartner p) k + one (waitsAt p (record { holding = k }))
-          ≤ (n + 1) * one (holdsIn p k) + bad l (record { holding = k })
+          → weightIn (lefts n) (samePartner p) k + asBit (waitsAt p (record { holding = k }))
+          ≤ (n + 1) * asBit (holdsIn p k) + bad l (record { holding = k })
       by Free = omega arith
       by (Held d ph q) = by-test (samePartner p q) (waitingPhase ph) (left n ph) (bad l (seat d ph q)) (phase-left d ph q)
 
   -- and it has a place that waits
-  waits-some : (ps : List Place) → waits p ps ≡ true → 1 ≤ weigh (here (waitsAt p)) ps
-  unfolding weigh some
+  waits-some : (ps : List Place) → waits p ps ≡ true → 1 ≤ sum (here (waitsAt p)) ps
+  unfolding sum some
   waits-some [] h = true-false false h refl
   waits-some (place ∷ ps) h = by (waitsAt p place) h (waits-some ps)
     where
       by : (b : Bool)
           → (b || waits p ps) ≡ true
-          → (waits p ps ≡ true → 1 ≤ weigh (here (waitsAt p)) ps)
-          → 1 ≤ one b + weigh (here (waitsAt p)) ps
+          → (waits p ps ≡ true → 1 ≤ sum (here (waitsAt p)) ps)
+          → 1 ≤ asBit b + sum (here (waitsAt p)) ps
       by true h above = omega arith
       by false h above =
           let rest = above h in
@@ -174,9 +176,9 @@ module _ (l : Limits) (some-try : 1 ≤ l .tries) (p : Partner) where
   pub waiting-left : (ps : List Place)
       → PlacesFacts l ps
       → waits p ps ≡ true
-      → (weigh (here (holds p)) ps ≡ 1) × (leftTo n p ps ≤ n)
+      → (sum (here (holds p)) ps ≡ 1) × (leftTo n p ps ≤ n)
   waiting-left ps facts h =
       let none = facts .0 in
       let some = waits-some ps h in
       let most = waits-left ps in
-      lone (weigh (here (holds p)) ps) (leftTo n p ps) (facts .1 p) (omega arith)
+      lone (sum (here (holds p)) ps) (leftTo n p ps) (facts .1 p) (omega arith)

@@ -1,3 +1,4 @@
+-- Cross-checks only: rules told a second time.
 -- What demand 3 counts, in the paper's numbers: a record by its bytes, an action by its number, a place by its phase, and how each count
 -- goes on with one record, one action or one place more.
 -- Proves: isOrder-means, isCall-means, isLoss-means, isRelease-means, releaseOf-means, waitingPhase-means, holdsPlace-means, waits-means,
@@ -36,10 +37,14 @@ use Rattle.unit.specs.declared.answer.Action.{Action}
 use Rattle.history.specs.Counting.{OneMore}
 use Rattle.history.specs.Histories.{endOf, after, sumOver, summed, isOrder, isCall, isLoss, acceptedAs, orders, calls, losses}
 use Rattle.history.specs.Histories.{actions, isRelease, releases, placesHeld, names, holdsPlace, waitingPhase, waitsAt, waits}
-use Rattle.history.specs.Histories.{releaseOf, releasesOf, heldTries, perOrder, perCall, perLoss, timeoutsToRelease, actionsOf}
+use Rattle.history.specs.Histories.{releaseOf, releasesOf, actionsOf}
+use Rattle.history.specs.PerEvent.{heldTries}
+use Rattle.history.specs.PerEvent.{perOrder, perCall, perLoss, timeoutsToRelease}
 use Rattle.history.specs.Histories.{ordersOf, callsOf, lossesOf, sentBy, sent}
 use Rattle.history.specs.Histories.{silent, timeouts}
-use Rattle.history.specs.Reaching.{oneToTwo, started, rbc5, sumsOf, counts, oneToNine, HeldTo}
+use Rattle.history.specs.Reaching.{rbc5, oneToNine, HeldTo}
+use Rattle.history.specs.Sums.{started, sumsOf, counts}
+use Rattle.unit.specs.States.{oneToTwo}
 use Rattle.history.proofs.Naming.{one-more}
 
 -- kind 5 is an order

@@ -1,3 +1,4 @@
+-- Cross-checks only: rules told a second time.
 -- Demand 3, what "named" means, in bytes: which records name a partner, which are a timeout for it, and what being silent and counting
 -- timeouts say of a whole history.
 -- Proves: names-means, timeoutFor-means, silent-means, one-more, timeouts-more.
@@ -14,9 +15,10 @@ use Rattle.wire.specs.Bytes.{byte}
 use Rattle.wire.specs.Refusals.{accepted, wrongLength, unknownKind, outOfRange}
 use Rattle.wire.proofs.Tests.{and-left, and-right, and-both, cond-case, cond-holds, true-false}
 use Rattle.record.specs.Partners.{samePartner}
-use Rattle.record.specs.Records.{messageVersion, messageCall, messageMeans, partnerIn, known, lengthOf, reading, readingNumber, readingOk}
-use Rattle.record.specs.Records.{Body, levelBody, missionBody, modeBody, holeBody, orderBody, partnerBody, endAllBody}
-use Rattle.record.specs.Records.{bodies, bodyOf, noBody}
+use Rattle.record.specs.Records.{messageVersion, messageCall, messageMeans, partnerIn, known, lengthOf, reading, rowOf}
+use Rattle.record.specs.Ranges.{readingNumber}
+use Rattle.record.specs.Records.{KindRow, partnerRow, kinds, noRow}
+use Rattle.record.specs.Ranges.{readingOk}
 use Rattle.record.specs.declared.partner.Partner.{Partner}
 use Rattle.record.specs.declared.event.PartnerEvent.the-variants.{Drop, Up, Loss, Timeout, Version, Ended}
 use Rattle.record.specs.declared.event.Event.{Event}
@@ -32,7 +34,8 @@ use Rattle.unit.specs.declared.last.Last.the-variants.{Unknown}
 use Rattle.unit.specs.declared.state.State.{State}
 use Rattle.unit.proofs.Rows.{_▹_, Numbered, numbered-at}
 use Rattle.history.specs.Counting.{OneMore}
-use Rattle.history.specs.Histories.{endOf, after, one, eventNames, eventTimeout, ofReading, names, timeoutFor, silent, timeouts}
+use Rattle.history.specs.Histories.{endOf, after, eventNames, eventTimeout, ofReading, names, timeoutFor, silent, timeouts}
+use Rattle.wire.specs.Bytes.{asBit}
 
 module _ (p : Partner) (last : Last) where
   -- whom a record of some kind names that carries this partner
@@ -49,8 +52,8 @@ module _ (p : Partner) (last : Last) where
       (eventNames p last e ≡ kindNames (byte s 0) (partnerIn s))
       × (eventTimeout p e ≡ kindTimeout (byte s 0) (partnerIn s))
 
-  abbrev Row : ℕ → Body → Type 0
-  Row kind body = (s : List ℕ) → byte s 0 ≡ kind → body .ranges s ≡ true → Says s (body .means s)
+  abbrev RowSays : ℕ → KindRow → Type 0
+  RowSays kind body = (s : List ℕ) → byte s 0 ≡ kind → body .ranges s ≡ true → Says s (body .means s)
 
   -- what a row's kind says is said of its records
   says-at : (kind : ℕ) (s : List ℕ) (e : Event)
@@ -61,19 +64,19 @@ module _ (p : Partner) (last : Last) where
   says-at kind s e is first second =
       (first ∙ ap (λ k. kindNames k (partnerIn s)) (sym is), second ∙ ap (λ k. kindTimeout k (partnerIn s)) (sym is))
 
-  rows-say : Numbered Row 0 bodies
+  rows-say : Numbered RowSays 0 kinds
   rows-say =
       (λ s e ok. true-false false ok refl)
-      ▹ (λ s e ok. says-at 1 s (levelBody .means s) e refl refl)
-      ▹ (λ s e ok. says-at 2 s (missionBody .means s) e refl refl)
-      ▹ (λ s e ok. says-at 3 s (modeBody .means s) e refl refl)
-      ▹ (λ s e ok. says-at 4 s (holeBody .means s) e refl refl)
-      ▹ (λ s e ok. says-at 5 s (orderBody .means s) e refl refl)
-      ▹ (λ s e ok. says-at 6 s (partnerBody Drop .means s) e refl (none (samePartner p (partnerIn s))))
-      ▹ (λ s e ok. says-at 7 s (endAllBody .means s) e refl refl)
-      ▹ (λ s e ok. says-at 8 s (partnerBody Up .means s) e refl (none (samePartner p (partnerIn s))))
-      ▹ (λ s e ok. says-at 9 s (partnerBody Loss .means s) e refl (none (samePartner p (partnerIn s))))
-      ▹ (λ s e ok. says-at 10 s (partnerBody Timeout .means s) e refl (all (samePartner p (partnerIn s))))
+      ▹ (λ s e ok. says-at 1 s ((rowOf 1) .means s) e refl refl)
+      ▹ (λ s e ok. says-at 2 s ((rowOf 2) .means s) e refl refl)
+      ▹ (λ s e ok. says-at 3 s ((rowOf 3) .means s) e refl refl)
+      ▹ (λ s e ok. says-at 4 s ((rowOf 4) .means s) e refl refl)
+      ▹ (λ s e ok. says-at 5 s ((rowOf 5) .means s) e refl refl)
+      ▹ (λ s e ok. says-at 6 s (partnerRow Drop .means s) e refl (none (samePartner p (partnerIn s))))
+      ▹ (λ s e ok. says-at 7 s ((rowOf 7) .means s) e refl refl)
+      ▹ (λ s e ok. says-at 8 s (partnerRow Up .means s) e refl (none (samePartner p (partnerIn s))))
+      ▹ (λ s e ok. says-at 9 s (partnerRow Loss .means s) e refl (none (samePartner p (partnerIn s))))
+      ▹ (λ s e ok. says-at 10 s (partnerRow Timeout .means s) e refl (all (samePartner p (partnerIn s))))
       ▹ (λ s e ok. message s e (byte s 5) (byte s 6))
       ▹ tt
     where
@@ -104,9 +107,9 @@ module _ (p : Partner) (last : Last) where
   reading-says [] = tt
   reading-says (kind ∷ body) =
       let s = kind ∷ body in
-      let row = numbered-at Row 0 bodies noBody rows-say (λ i s e ok. true-false false ok refl) kind s (omega arith) in
+      let row = numbered-at RowSays 0 kinds noRow rows-say (λ i s e ok. true-false false ok refl) kind s (omega arith) in
       let ranged =
-      cond-case (SaysRead s) (bodyOf kind .ranges s) (Meant (bodyOf kind .means s)) (Refused outOfRange) row (λ outside. tt) in
+      cond-case (SaysRead s) (rowOf kind .ranges s) (Meant (rowOf kind .means s)) (Refused outOfRange) row (λ outside. tt) in
       let sized = cond-holds (SaysRead s) (eqb (length s) (lengthOf kind)) _ (Refused wrongLength) ranged tt in
       cond-holds (SaysRead s) (known kind) _ (Refused unknownKind) sized tt
 
@@ -245,7 +248,7 @@ pub one-more : (P : Type 0) (b : Bool)
     → (b ≡ true → P)
     → (P → b ≡ true)
     → (before now : ℕ)
-    → now ≡ before + one b
+    → now ≡ before + asBit b
     → OneMore P before now
 one-more P true shows shown before now h = ((λ is. h), (λ other. absurd (other (shows refl))))
 one-more P false shows shown before now h = ((λ is. true-false false (shown is) refl), (λ other. omega arith))
@@ -261,7 +264,7 @@ timeouts-more p =
     (refl, λ history bytes. one-more _ (timeoutFor p bytes) (λ is. is) (λ is. is) _ _ (joined history bytes))
   where
     joined : (history : List (List ℕ)) (bytes : List ℕ)
-        → timeouts p (history ++ (bytes ∷ [])) ≡ timeouts p history + one (timeoutFor p bytes)
+        → timeouts p (history ++ (bytes ∷ [])) ≡ timeouts p history + asBit (timeoutFor p bytes)
     joined [] bytes = omega arith
     joined (first ∷ history) bytes =
         let rest = joined history bytes in

@@ -1,3 +1,4 @@
+-- Cross-checks only: rules told a second time.
 -- What words of the promises on a turn, on an event and on a reading mean, in the paper's numbers.
 -- Proves: ownNumbers-means, firstTries-means, afresh-means, onNext-means, phaseOk-means, fitsIncoming-means, nextSound-means,
 -- seatOf-means, readingNumber-means, partnerEventOk-means, namedOk-means, eventOk-means, readingOk-means, ranged-means, takenOk-means.
@@ -12,8 +13,10 @@ use lib.ListN.{length, getD, take}
 use borrow.Author.Tests.{eqb-true, eqb-false, eq-eqb, ne-eqb, leb-true, le-leb}
 use Rattle.wire.proofs.Tests.{and-left, and-right, and-both, true-false}
 use Rattle.record.specs.Partners.{nidRbc, reserved, namedOk}
-use Rattle.record.specs.Records.{reading, readingNumber, partnerEventOk, eventOk, readingOk, Ranged}
-use Rattle.record.specs.Takes.{TakenOk}
+use Rattle.record.specs.Records.{reading}
+use Rattle.record.specs.Ranges.{readingNumber}
+use Rattle.record.specs.Ranges.{partnerEventOk, eventOk, readingOk, Ranged}
+use Rattle.record.specs.TakeWords.{TakenOk}
 use Rattle.record.specs.declared.partner.Partner.{Partner}
 use Rattle.record.specs.declared.event.Cause.{Cause}
 use Rattle.record.specs.declared.event.PartnerEvent.{PartnerEvent}

@@ -22,10 +22,12 @@ use Rattle.unit.specs.declared.last.Last.{Last}
 use Rattle.unit.specs.declared.last.Last.the-variants.{Unknown}
 use Rattle.unit.specs.declared.state.State.{State}
 use Rattle.unit.specs.Examples.{examples}
-use Rattle.history.specs.Histories.{sumOver, after, summed, orders, calls, losses, actions, perOrder, perCall, perLoss}
-use Rattle.history.specs.Histories.{silent, timeouts, holdsPlace, waitingPhase, waits, timeoutsToRelease}
-use Rattle.history.specs.Reaching.{started, rbc5, order5, drop5, up5, lost5, timeout5, call5, retries, lossesIn, ordering, calling}
-use Rattle.history.specs.Reaching.{repeated, reaching, sumsOf, counts, oneToNine, HeldTo}
+use Rattle.history.specs.Histories.{sumOver, after, summed, orders, calls, losses, actions}
+use Rattle.history.specs.PerEvent.{perOrder, perCall, perLoss, timeoutsToRelease}
+use Rattle.history.specs.Histories.{silent, timeouts, holdsPlace, waitingPhase, waits}
+use Rattle.history.specs.Reaching.{rbc5, order5, drop5, up5, lost5, timeout5, call5, retries, lossesIn, ordering, calling}
+use Rattle.history.specs.Sums.{started, sumsOf, counts}
+use Rattle.history.specs.Reaching.{repeated, reaching, oneToNine, HeldTo}
 use Rattle.history.proofs.Leads.{Leads, stays, goes-on, counted-as, again-and-again}
 use Rattle.history.proofs.Sessions.{box, idle, five, started-idle, ordering-leads, calling-leads}
 use Rattle.history.proofs.Sessions.{connecting-starts, contacting-starts, lost-starts, ending-starts}

@@ -27,14 +27,18 @@ use Rattle.place.specs.declared.turn.Turn.{Turn}
 use Rattle.place.specs.declared.turn.Turn.the-variants.{Released, Becomes, Sends}
 use Rattle.unit.specs.Lasts.{lastOk, recalled}
 use Rattle.unit.specs.States.{first, seek, limitsOk, placesOk, sound, noMarks, cold, noLimits, coldStart, some}
-use Rattle.unit.specs.Steps.{Outcome, done, act, turned, closed, closingActions, step}
+use Rattle.unit.specs.Steps.{Outcome, done, act, closed, closingActions, step}
+use Rattle.unit.specs.Searching.{turned}
 use Rattle.unit.specs.OnRecords.{trace, actionRoom, onRecord}
 use Rattle.unit.specs.declared.last.Last.{Last}
 use Rattle.unit.specs.declared.last.Last.the-variants.{Unknown, Known}
 use Rattle.unit.specs.declared.start.Started.{Started}
 use Rattle.unit.specs.declared.state.State.{State}
-use Rattle.history.specs.Histories.{endOf, after, isOrder, isCall, isLoss, acceptedAs, perOrder, perCall, perLoss}
-use Rattle.history.specs.Reaching.{oneToTwo, started, retries, lossesIn, endedLate, ordering, calling}
+use Rattle.history.specs.Histories.{endOf, after, isOrder, isCall, isLoss, acceptedAs}
+use Rattle.history.specs.PerEvent.{perOrder, perCall, perLoss}
+use Rattle.history.specs.Reaching.{retries, lossesIn, endedLate, ordering, calling}
+use Rattle.history.specs.Sums.{started}
+use Rattle.unit.specs.States.{oneToTwo}
 use Rattle.history.specs.Reaching.{rbc5, order5, drop5, up5, lost5, timeout5, version5, call5, ended5}
 use Rattle.history.proofs.Leads.{Leads, stays, begins, goes-on, counted-as}
 

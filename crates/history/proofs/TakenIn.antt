@@ -14,8 +14,9 @@ use Rattle.place.specs.declared.place.Place.{Place}
 use Rattle.place.specs.declared.limits.Limits.{Limits}
 use Rattle.unit.specs.States.{coldStart}
 use Rattle.unit.specs.declared.answer.Action.{Action}
-use Rattle.unit.specs.Kept.{weigh}
-use Rattle.history.specs.Histories.{after, one, orders, calls, isRelease, releases, placesHeld}
+use Rattle.wire.specs.Sums.{sum}
+use Rattle.history.specs.Histories.{after, orders, calls, isRelease, releases, placesHeld}
+use Rattle.wire.specs.Bytes.{asBit}
 use Rattle.unit.proofs.Balances.{exactly}
 use Rattle.unit.proofs.Scales.{weightIn, counted}
 use Rattle.unit.proofs.Seats.{seats, seats-balanced}
@@ -25,11 +26,11 @@ use Rattle.history.proofs.Along.{cold-light}
 
 -- the places weighed are those held
 held-count : (ps : List Place) → total seats (λ p. true) ps ≡ placesHeld ps
-unfolding weigh placesHeld
+unfolding sum placesHeld
 held-count [] = refl
 held-count (p ∷ ps) = ap₂ _+_ (by (p .holding)) (held-count ps)
   where
-    by : (k : Holding) → weightIn seats (λ p. true) k ≡ one (not (isFreeHolding k))
+    by : (k : Holding) → weightIn seats (λ p. true) k ≡ asBit (not (isFreeHolding k))
     by Free = refl
     by (Held d ph p) = refl
 

@@ -1,6 +1,6 @@
 -- A timeout that names a partner that waits has an action for it: the next try, or its release.
 -- Proves: timeout-acts.
-use mathlib.Core.Path.{_≡_, refl, subst}
+use mathlib.Core.Path.{_≡_, refl, sym, subst}
 use mathlib.Core.Bool.{true, false, cond}
 use mathlib.Core.List.{List, [], _∷_}
 use Prim.Native.Nat.{ℕ, _≤_}
@@ -27,7 +27,8 @@ use Rattle.place.specs.declared.place.Holding.{Holding}
 use Rattle.place.specs.declared.place.Holding.the-variants.{Free, Held}
 use Rattle.place.specs.declared.turn.Turn.the-variants.{Released, Sends}
 use Rattle.unit.specs.States.{seek, sound}
-use Rattle.unit.specs.Steps.{act, turned, namedAt, step}
+use Rattle.unit.specs.Steps.{Outcome, act, step}
+use Rattle.unit.specs.Searching.{turned, namedAt}
 use Rattle.unit.specs.OnRecords.{actionRoom, onReading, onRecord}
 use Rattle.unit.specs.declared.state.State.{State}
 use Rattle.unit.specs.declared.search.Found.{Found}
@@ -35,6 +36,7 @@ use Rattle.unit.specs.declared.search.Found.the-variants.{At, Vacant, Full}
 use Rattle.unit.specs.declared.answer.Action.{Action}
 use Rattle.unit.proofs.Weights.{weigh-at}
 use Rattle.unit.proofs.Searches.{FoundOk, seek-ok}
+use Rattle.unit.proofs.ByFound.{named-found}
 use Rattle.unit.specs.Kept.{count}
 use Rattle.history.specs.Histories.{isTimeout, eventTimeout, ofReading, timeoutFor}
 use Rattle.unit.proofs.Scales.{weightIn, weightOf, counted}
@@ -95,7 +97,6 @@ module _ (p : Partner) (s : State)
 
   -- the event is a timeout that names it
   event-acts : (e : Event) → eventTimeout p e ≡ true → 1 ≤ own (step s e .actions)
-  unfolding step
   event-acts (Level level manual) h = true-false false h refl
   event-acts (Mission mission) h = true-false false h refl
   event-acts Mode h = true-false false h refl
@@ -104,7 +105,8 @@ module _ (p : Partner) (s : State)
   event-acts EndAll h = true-false false h refl
   event-acts (Call q) h = true-false false h refl
   event-acts (Named q e) h =
-      by e (and-right (samePartner p q) (isTimeout e) h) (same-eq p q (and-left (samePartner p q) (isTimeout e) h))
+      subst (λ (o : Outcome). 1 ≤ own (o .actions)) (sym (named-found s q e))
+      (by e (and-right (samePartner p q) (isTimeout e) h) (same-eq p q (and-left (samePartner p q) (isTimeout e) h)))
     where
       by : (e : PartnerEvent)
           → isTimeout e ≡ true

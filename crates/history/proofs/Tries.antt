@@ -22,7 +22,8 @@ use Rattle.unit.specs.States.{placeCount, limitsOk, sound, noLimits, cold, cold
 use Rattle.unit.specs.declared.start.Started.{Started}
 use Rattle.unit.specs.declared.state.State.{State}
 use Rattle.unit.proofs.Facts.{sound-facts, place-at}
-use Rattle.history.specs.Histories.{after, heldTries}
+use Rattle.history.specs.Histories.{after}
+use Rattle.history.specs.PerEvent.{heldTries}
 use Rattle.unit.proofs.Starts.{cold-sound, cold-limits}
 use Rattle.history.proofs.Along.{after-sound, after-limits}
 

@@ -1,3 +1,4 @@
+-- Cross-checks only: rules told a second time.
 -- What words of the promises on a step and on a run mean, in the paper's numbers.
 -- Proves: kept-means, numbered-means, stands-means, says-means, concern-means, concernOf-means, wasFree-means, isClosedBy-means,
 -- weigh-more, here-means, runCode-means, allCodes-means, stopsBy-means, stepsOf-more, sumOf-more, course-more, steps-more.
@@ -35,12 +36,17 @@ use Rattle.place.specs.declared.place.Holding.{Holding}
 use Rattle.place.specs.declared.place.Holding.the-variants.{Free, Held}
 use Rattle.place.specs.declared.place.Place.{Place}
 use Rattle.place.specs.declared.turn.Closing.{Closing}
-use Rattle.unit.specs.Kept.{Kept, weigh, once, here, isClosedBy, WasFree}
+use Rattle.unit.specs.Kept.{here}
+use Rattle.unit.specs.StepWords.{Kept, isClosedBy, WasFree}
+use Rattle.wire.specs.Sums.{sum}
+use Rattle.wire.specs.Bytes.{asBit}
 use Rattle.unit.specs.Lasts.{meant}
 use Rattle.unit.specs.Standings.{Concern, nobody, orderTo, callOf, naming, concern, concernOf, Numbered, Stands, Says}
 use Rattle.unit.specs.Steps.{Outcome}
 use Rattle.unit.specs.OnRecords.{onRecord}
-use Rattle.unit.specs.Runs.{Course, stops, applies, course, stepsOf, steps, sumOf, runCode, allCodes, StopsBy}
+use Rattle.unit.specs.Runs.{Course, stops, applies, course}
+use Rattle.unit.specs.RunWords.{stepsOf, steps, StopsBy}
+use Rattle.unit.specs.RunWords.{runCode, allCodes}
 use Rattle.unit.specs.declared.last.Last.{Last}
 use Rattle.unit.specs.declared.search.Standing.{Standing}
 use Rattle.unit.specs.declared.state.State.{State}
@@ -179,8 +185,8 @@ isClosedBy-means which place = (is (place .holding), λ h. ap (isClosedBy which)
 -- the sum of a weight: 0 of no place, and with each place its own more
 -- meaning
 pub weigh-more : (f : Place → ℕ)
-    → (weigh f [] ≡ 0) × ((p : Place) (ps : List Place) → weigh f (p ∷ ps) ≡ f p + weigh f ps)
-unfolding weigh
+    → (sum f [] ≡ 0) × ((p : Place) (ps : List Place) → sum f (p ∷ ps) ≡ f p + sum f ps)
+unfolding sum
 weigh-more f = (refl, λ p ps. refl)
 
 -- a place that passes the test counts 1, and any other 0
@@ -189,7 +195,7 @@ pub here-means : (test : Place → Bool) (p : Place)
     → ((here test p ≡ 1) ↔ (test p ≡ true)) × ((here test p ≡ 0) ↔ (test p ≡ false))
 here-means test p = by (test p)
   where
-    by : (b : Bool) → ((once b ≡ 1) ↔ (b ≡ true)) × ((once b ≡ 0) ↔ (b ≡ false))
+    by : (b : Bool) → ((asBit b ≡ 1) ↔ (b ≡ true)) × ((asBit b ≡ 0) ↔ (b ≡ false))
     by true = (((λ h. refl), (λ h. refl)), ((λ h. absurd (omega arith)), (λ h. true-false true refl h)))
     by false = (((λ h. absurd (omega arith)), (λ h. true-false false h refl)), ((λ h. refl), (λ h. refl)))
 
@@ -320,8 +326,8 @@ stepsOf-more = ((λ stop. refl), (λ bytes o rest. refl))
 -- a sum over steps: 0 of none, and with each step its own more
 -- meaning
 pub sumOf-more : (w : Outcome → ℕ)
-    → (sumOf w [] ≡ 0) × ((o : Outcome) (os : List Outcome) → sumOf w (o ∷ os) ≡ w o + sumOf w os)
-unfolding sumOf
+    → (sum w [] ≡ 0) × ((o : Outcome) (os : List Outcome) → sum w (o ∷ os) ≡ w o + sum w os)
+unfolding sum
 sumOf-more w = (refl, λ o os. refl)
 
 -- the course of a run: stop 0 or 1 with no budget left, else what was taken off the front, applied with 20 bytes, or the stop

@@ -20,8 +20,11 @@ use Rattle.unit.specs.OnRecords.{trace, onRecord}
 use Rattle.unit.specs.Kept.{count}
 use Rattle.unit.specs.declared.last.Last.the-variants.{Unknown, Known}
 use Rattle.unit.proofs.Starts.{cold-limits, cold-sound}
-use Rattle.history.specs.Histories.{after, timeouts, holdsPlace, releasesOf, timeoutsToRelease, sentBy, sent}
-use Rattle.history.specs.Reaching.{oneToTwo, started, rbc5}
+use Rattle.history.specs.Histories.{after, timeouts, holdsPlace, releasesOf, sentBy, sent}
+use Rattle.history.specs.PerEvent.{timeoutsToRelease}
+use Rattle.history.specs.Reaching.{rbc5}
+use Rattle.history.specs.Sums.{started}
+use Rattle.unit.specs.States.{oneToTwo}
 use Rattle.history.specs.Between.{riu7, bothConnecting, bothContacting, bothLost, bothEnding, amongAll, amongOrders, amongOthers}
 use Rattle.history.specs.Between.{open7, toLast5, toLast7, Freed}
 use Rattle.history.proofs.Along.{after-sound, after-limits}

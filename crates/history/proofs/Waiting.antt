@@ -16,12 +16,15 @@ use Rattle.unit.specs.States.{sound, some}
 use Rattle.unit.specs.OnRecords.{trace, actionRoom, onRecord}
 use Rattle.unit.specs.declared.state.State.{State}
 use Rattle.unit.specs.declared.answer.Action.{Action}
-use Rattle.unit.specs.Kept.{here, once, weigh, count}
+use Rattle.unit.specs.Kept.{here, count}
+use Rattle.wire.specs.Bytes.{asBit}
+use Rattle.wire.specs.Sums.{sum}
 use Rattle.unit.proofs.Effects.{onRecord-limits}
 use Rattle.unit.proofs.Facts.{limits-tries, sound-facts}
 use Rattle.unit.proofs.Sound.{onRecord-sound}
 use Rattle.history.specs.Histories.{endOf, after, timeoutFor, silent, timeouts, holdsPlace, waits}
-use Rattle.history.specs.Histories.{isRelease, releaseOf, releasesOf, timeoutsToRelease}
+use Rattle.history.specs.Histories.{isRelease, releaseOf, releasesOf}
+use Rattle.history.specs.PerEvent.{timeoutsToRelease}
 use Rattle.unit.proofs.Counts.{count-same}
 use Rattle.unit.proofs.Balances.{atMost, exactly}
 use Rattle.unit.proofs.Scales.{counted}
@@ -54,7 +57,7 @@ module _ (p : Partner) where
       → leftIn p s ≤ s .limits .tries
       → (bytes : List ℕ)
       → quiet p s bytes ≡ true
-      → leftIn p (onRecord s bytes actionRoom .state) ≤ leftIn p s - once (timeoutFor p bytes)
+      → leftIn p (onRecord s bytes actionRoom .state) ≤ leftIn p s - asBit (timeoutFor p bytes)
   left-step s ok few bytes h =
       let n = s .limits .tries in
       let o = onRecord s bytes actionRoom in
@@ -86,17 +89,17 @@ module _ (p : Partner) where
       omega arith
 
 -- a partner that holds none of the places has none
-absent : (p : Partner) (ps : List Place) → weigh (here (holds p)) ps ≡ 0 → holdsPlace p ps ≡ false
-unfolding weigh some
+absent : (p : Partner) (ps : List Place) → sum (here (holds p)) ps ≡ 0 → holdsPlace p ps ≡ false
+unfolding sum some
 absent p [] h = refl
 absent p (place ∷ ps) h = by (holds p place) (omega arith) (absent p ps (omega arith))
   where
-    by : (b : Bool) → once b ≡ 0 → holdsPlace p ps ≡ false → (b || holdsPlace p ps) ≡ false
+    by : (b : Bool) → asBit b ≡ 0 → holdsPlace p ps ≡ false → (b || holdsPlace p ps) ≡ false
     by true one above = absurd (omega arith)
     by false one above = above
 
 -- the places of one partner weighed are those that hold it
-seats-held : (p : Partner) (ps : List Place) → total seats (samePartner p) ps ≡ weigh (here (holds p)) ps
+seats-held : (p : Partner) (ps : List Place) → total seats (samePartner p) ps ≡ sum (here (holds p)) ps
 seats-held p ps = seats-weigh (samePartner p) ps ∙ own-places p ps
 
 -- a release for the partner is one of its releases
@@ -119,7 +122,7 @@ module _
     (enough : timeoutsToRelease (s .limits .tries) ≤ timeouts p history)
   where
     -- after so many timeouts nothing is left, so no place is held
-    none-held : weigh (here (holds p)) (after s history .places) ≡ 0
+    none-held : sum (here (holds p)) (after s history .places) ≡ 0
     none-held =
         let few = waiting-left (s .limits) (some-try s ok) p (s .places) (sound-facts s ok .places) waiting-now .1 in
         let most = left-after p s ok few history quiet-on in

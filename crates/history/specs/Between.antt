@@ -1,4 +1,5 @@
--- Only laws speak of what stands here: rows in which RBC 5 and RIU 7 wait and time out, with every kind of record for others and for
+-- Examples only: nobody has to believe what stands here.
+-- Rows in which RBC 5 and RIU 7 wait and time out, with every kind of record for others and for
 -- nobody before each of their timeouts.
 -- Defines: riu7, timeout7, bothConnecting, bothContacting, bothLost, bothEnding, open7, ofNobody, ofOthers, displacing, endings,
 -- unreadable, amongAll, amongOrders, amongOthers, rounds, beforeLast5, toLast5, beforeLast7, toLast7, HeldUntil, BothHeld, Freed.
@@ -12,7 +13,8 @@ use Rattle.record.specs.declared.partner.Partner.{Partner}
 use Rattle.place.specs.Places.{vacant, heldPhase}
 use Rattle.place.specs.declared.phase.Phase.{Phase}
 use Rattle.history.specs.Histories.{after, silent, timeouts, holdsPlace, waits, releasesOf}
-use Rattle.history.specs.Reaching.{started, rbc5, timeout5, repeated}
+use Rattle.history.specs.Reaching.{rbc5, timeout5, repeated}
+use Rattle.history.specs.Sums.{started}
 
 -- the partner "RIU 7", and its timeout
 abbrev pub riu7 : Partner

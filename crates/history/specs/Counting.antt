@@ -1,4 +1,5 @@
--- Only laws speak of what stands here: how a count goes on with one record more.
+-- Cross-checks only: nobody has to believe what stands here.
+-- How a count goes on with one record more.
 -- Defines: OneMore.
 use Prim.Native.Nat.{ℕ, _+_}
 use mathlib.Core.Path.{_≡_}

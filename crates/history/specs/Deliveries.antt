@@ -1,4 +1,5 @@
--- Only laws speak of what stands here: events that request Q-11 is computed with, and the state that they come to.
+-- Examples only: nobody has to believe what stands here.
+-- Events that request Q-11 is computed with, and the state that they come to.
 -- Defines: rbcOne, rbcTwo, riuThree, rbcFour; versionOne, lostOne, upOne, dropOne, endedOne, timeoutTwo, versionTwo,
 -- lostTwo, upThree, timeoutThree, dropFour, endedFour (an event and its partner);
 -- atWork (a history), working (the state after it), inTurn and oneByOne (two mixtures of the same rows), firstAnswered and
@@ -19,7 +20,7 @@ use Rattle.unit.specs.OnRecords.{trace, onRecord}
 use Rattle.unit.specs.declared.state.State.{State}
 use Rattle.unit.specs.declared.answer.Action.{Action}
 use Rattle.history.specs.Histories.{endOf, after}
-use Rattle.history.specs.Reaching.{started}
+use Rattle.history.specs.Sums.{started}
 use Rattle.history.specs.EitherOrder.{Delivered, Reply}
 
 -- three RBCs and an RIU

@@ -1,9 +1,9 @@
 -- Request Q-11: "Our radio layer delivers events of different partners in whichever order they come."
--- Defines: Delivered, recordsOf, Differ, DifferAll, Different, versions, Compared, Reply, answerOf, next, alone, Alike, Permuted.
+-- Defines: Delivered, Differ, versions, Compared, Reply, answerOf, next, alone, Alike.
 use Prim.Native.Nat.{ℕ, _+_, _≤_}
 use mathlib.Core.Bool.{false}
 use mathlib.Core.Path.{_≡_}
-use mathlib.Core.List.{List, [], _∷_, map}
+use mathlib.Core.List.{List, [], _∷_}
 use Rattle.record.specs.Partners.{samePartner}
 use Rattle.record.specs.Records.{reading}
 use Rattle.record.specs.declared.partner.Partner.{Partner}
@@ -11,7 +11,8 @@ use Rattle.record.specs.declared.event.PartnerEvent.{PartnerEvent}
 use Rattle.record.specs.declared.event.Event.the-variants.{Named}
 use Rattle.record.specs.declared.event.Reading.the-variants.{Meant}
 use Rattle.unit.specs.Steps.{Outcome}
-use Rattle.unit.specs.Kept.{once, isVersion}
+use Rattle.unit.specs.Kept.{isVersion}
+use Rattle.wire.specs.Bytes.{asBit}
 use Rattle.unit.specs.OnRecords.{actionRoom, onRecord}
 use Rattle.unit.specs.declared.state.State.{State}
 use Rattle.unit.specs.declared.search.Standing.{Standing}
@@ -24,25 +25,14 @@ pub record Delivered : Type 0 where
   pub event : PartnerEvent
   pub means : reading bytes ≡ Meant (Named partner event)
 
-abbrev pub recordsOf : List Delivered → List (List ℕ)
-recordsOf xs = map (λ x. x .bytes) xs
-
--- "naming two different partners", and pairwise different ones of a row
+-- "naming two different partners"
 abbrev pub Differ : Delivered → Delivered → Type 0
 Differ x y = samePartner (x .partner) (y .partner) ≡ false
-
-unfoldable pub DifferAll : Delivered → List Delivered → Type 0
-DifferAll x [] = Unit
-DifferAll x (y ∷ ys) = Differ x y × DifferAll x ys
-
-unfoldable pub Different : List Delivered → Type 0
-Different [] = Unit
-Different (x ∷ xs) = DifferAll x xs × Different xs
 
 -- how many are message 32
 unfoldable pub versions : List Delivered → ℕ
 versions [] = 0
-versions (x ∷ xs) = once (isVersion (x .event)) + versions xs
+versions (x ∷ xs) = asBit (isVersion (x .event)) + versions xs
 
 -- "If both are message 32 the last known RBC .. is left out": it is compared where at most one is
 abbrev pub Compared : List Delivered → Type 0
@@ -67,10 +57,3 @@ alone s x = answerOf (onRecord s (x .bytes) actionRoom)
 -- "the same state", the last known RBC "left out of the comparison"
 abbrev pub Alike : State → State → Type 0
 Alike s t = (s .limits ≡ t .limits) × (s .train ≡ t .train) × (s .marks ≡ t .marks) × (s .places ≡ t .places)
-
--- one row in another order
-pub data Permuted : List Delivered → List Delivered → Type 0 where
-  empty : Permuted [] []
-  keeps : (x : Delivered) {xs ys : List Delivered} → Permuted xs ys → Permuted (x ∷ xs) (x ∷ ys)
-  swaps : (x y : Delivered) (xs : List Delivered) → Permuted (x ∷ y ∷ xs) (y ∷ x ∷ xs)
-  joins : {xs ys zs : List Delivered} → Permuted xs ys → Permuted ys zs → Permuted xs zs

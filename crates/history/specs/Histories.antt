@@ -1,35 +1,34 @@
 -- Document 01, "Worth of each promise": histories, and what demand 3 counts in them.
 -- A history is a row of event records, any bytes, each given 20 bytes for its actions. Everything is counted from the defined steps.
--- Defines: endOf, after, sumOver, summed, one, isOrder, isCall, isLoss, acceptedAs, orders, calls, losses, actions, isRelease, releases,
--- placesHeld, eventNames, isTimeout, eventTimeout, ofReading, names, timeoutFor, silent, timeouts, holdsPlace, waitingPhase,
--- waitsAt, waits, releaseOf, releasesOf, heldTries, perOrder, perCall, perLoss, timeoutsToRelease, actionsOf, ordersOf,
--- callsOf, lossesOf, sentBy, sent.
-use Prim.Native.Nat.{ℕ, _+_, _*_}
-use mathlib.Core.Bool.{Bool, true, false, cond, _&&_, _||_, not}
+-- Defines: endOf, after, sumOver, summed, isOrder, isCall, isLoss, acceptedAs, orders, calls, losses, actions, isRelease, releases,
+-- placesHeld, eventNames, isTimeout, eventTimeout, ofReading, names, timeoutFor, silent, timeouts, holdsPlace, waitingPhase, waitsAt,
+-- waits, releaseOf, releasesOf, actionsOf, ordersOf, callsOf, lossesOf, sentBy, sent.
+use Prim.Native.Nat.{ℕ, _+_}
+use mathlib.Core.Bool.{Bool, true, false, _&&_, _||_, not}
 use mathlib.Core.List.{List, [], _∷_, _++_}
 use lib.Dec.{eqb}
 use lib.ListN.{length}
+use Rattle.record.specs.Events.{byEvent}
 use Rattle.record.specs.Partners.{samePartner}
 use Rattle.record.specs.Records.{kindOrder, kindLoss, kindMessage, messageCall, reading}
-use Rattle.wire.specs.Bytes.{byte}
+use Rattle.wire.specs.Bytes.{byte, asBit}
+use Rattle.wire.specs.Sums.{sum}
 use Rattle.wire.specs.Refusals.{accepted}
 use Rattle.record.specs.declared.partner.Partner.{Partner}
 use Rattle.record.specs.declared.event.PartnerEvent.{PartnerEvent}
-use Rattle.record.specs.declared.event.PartnerEvent.the-variants.{Drop, Up, Loss, Timeout, Version, Ended}
 use Rattle.record.specs.declared.event.Event.{Event}
-use Rattle.record.specs.declared.event.Event.the-variants.{Level, Mission, Mode, Hole, Order, EndAll, Call, Named}
 use Rattle.record.specs.declared.event.Reading.{Reading}
 use Rattle.record.specs.declared.event.Reading.the-variants.{Meant, Refused}
-use Rattle.place.specs.Places.{isFree, holds, tries, onHolding}
+use Rattle.place.specs.Places.{byPhase, isFree, holds, onHolding}
 use Rattle.place.specs.Table.{release}
 use Rattle.place.specs.declared.phase.Phase.{Phase}
-use Rattle.place.specs.declared.phase.Phase.the-variants.{Connecting, Contacting, Open, Lost, Ending}
 use Rattle.place.specs.declared.place.Place.{Place}
 use Rattle.unit.specs.Steps.{Outcome}
 use Rattle.unit.specs.Kept.{count}
 use Rattle.unit.specs.OnRecords.{actionRoom, onRecord, trace}
-use Rattle.unit.specs.Lasts.{meant}
+use Rattle.unit.specs.Standings.{byConcern, concern}
 use Rattle.unit.specs.declared.last.Last.{Last}
+use Rattle.unit.specs.declared.last.Last.the-variants.{Unknown}
 use Rattle.unit.specs.declared.state.State.{State}
 use Rattle.unit.specs.declared.answer.Action.{Action}
 use Rattle.unit.specs.States.{some}
@@ -39,7 +38,7 @@ unfoldable pub endOf : State → List Outcome → State
 endOf s [] = s
 endOf s (o ∷ os) = endOf (o .state) os
 
--- the state after a history
+-- the state after a history: "a row of event records, each given 20 bytes for its actions"
 unfoldable pub after : State → List (List ℕ) → State
 after s history = endOf s (trace s history)
 
@@ -53,10 +52,6 @@ sumOver f s (bytes ∷ history) (o ∷ os) = f s bytes o + sumOver f (o .state) 
 unfoldable pub summed : (State → List ℕ → Outcome → ℕ) → State → List (List ℕ) → ℕ
 summed f s history = sumOver f s history (trace s history)
 
--- 1 where a test passes
-abbrev pub one : Bool → ℕ
-one b = cond b 1 0
-
 -- kind 5; kind 11 with number 38; kind 9: read from the record's bytes
 abbrev pub isOrder : List ℕ → Bool
 isOrder bytes = eqb (byte bytes 0) kindOrder
@@ -69,7 +64,7 @@ isLoss bytes = eqb (byte bytes 0) kindLoss
 
 -- accepted means code 0
 abbrev pub acceptedAs : (State → List ℕ → Bool) → State → List ℕ → Outcome → ℕ
-acceptedAs test s bytes o = one (test s bytes && eqb (o .code) accepted)
+acceptedAs test s bytes o = asBit (test s bytes && eqb (o .code) accepted)
 
 -- the accepted orders, calls 38 and losses of a history
 abbrev pub orders : State → List (List ℕ) → ℕ
@@ -94,38 +89,20 @@ releases = summed (λ s bytes o. count isRelease (o .actions))
 
 -- the places that hold a partner
 unfoldable pub placesHeld : List Place → ℕ
-placesHeld [] = 0
-placesHeld (p ∷ ps) = one (not (isFree p)) + placesHeld ps
+unfolding sum
+placesHeld ps = sum (λ p. asBit (not (isFree p))) ps
 
 -- a record names a partner when it reads as an event that carries that type and number; Q-2: an order with 16,383 names whoever is
 -- meant by it at that point
 abbrev pub eventNames : Partner → Last → Event → Bool
-eventNames p last (Level level manual) = false
-eventNames p last (Mission mission) = false
-eventNames p last Mode = false
-eventNames p last (Hole entered) = false
-eventNames p last (Order q accepting cause) = samePartner p (meant last q)
-eventNames p last EndAll = false
-eventNames p last (Call q) = samePartner p q
-eventNames p last (Named q e) = samePartner p q
+eventNames p last e = byConcern false (samePartner p) (samePartner p) (λ q f. samePartner p q) (concern last e)
 
 abbrev pub isTimeout : PartnerEvent → Bool
-isTimeout Drop = false
-isTimeout Up = false
-isTimeout Loss = false
-isTimeout Timeout = true
-isTimeout (Version v) = false
-isTimeout Ended = false
+isTimeout = byEvent false false false true (λ v. false) false
 
+-- whom an order means plays no part in it
 abbrev pub eventTimeout : Partner → Event → Bool
-eventTimeout p (Level level manual) = false
-eventTimeout p (Mission mission) = false
-eventTimeout p Mode = false
-eventTimeout p (Hole entered) = false
-eventTimeout p (Order q accepting cause) = false
-eventTimeout p EndAll = false
-eventTimeout p (Call q) = false
-eventTimeout p (Named q e) = samePartner p q && isTimeout e
+eventTimeout p e = byConcern false (λ q. false) (λ q. false) (λ q f. samePartner p q && isTimeout f) (concern Unknown e)
 
 abbrev pub ofReading : (Event → Bool) → Reading → Bool
 ofReading test (Meant e) = test e
@@ -145,8 +122,8 @@ silent p s (bytes ∷ history) =
     (not (names p s bytes) || timeoutFor p bytes) && silent p (onRecord s bytes actionRoom .state) history
 
 unfoldable pub timeouts : Partner → List (List ℕ) → ℕ
-timeouts p [] = 0
-timeouts p (bytes ∷ history) = one (timeoutFor p bytes) + timeouts p history
+unfolding sum
+timeouts p history = sum (λ bytes. asBit (timeoutFor p bytes)) history
 
 -- the partner holds a place
 abbrev pub holdsPlace : Partner → List Place → Bool
@@ -154,11 +131,7 @@ holdsPlace p = some (holds p)
 
 -- "A partner that waits (any phase but Open)"
 abbrev pub waitingPhase : Phase → Bool
-waitingPhase (Connecting t) = true
-waitingPhase (Contacting t) = true
-waitingPhase Open = false
-waitingPhase (Lost t) = true
-waitingPhase (Ending t) = true
+waitingPhase = byPhase true true false true true
 
 abbrev pub waitsAt : Partner → Place → Bool
 waitsAt p place = onHolding false (λ d ph q. samePartner p q && waitingPhase ph) (place .holding)
@@ -172,24 +145,6 @@ releaseOf p a = isRelease a && samePartner p (a .partner)
 
 abbrev pub releasesOf : Partner → State → List (List ℕ) → ℕ
 releasesOf p = summed (λ s bytes o. count (releaseOf p) (o .actions))
-
--- the tries used at a place, 0 where it is free
-abbrev pub heldTries : Place → ℕ
-heldTries place = onHolding 0 (λ d ph p. tries ph) (place .holding)
-
--- the most actions for each accepted order, call 38 and loss, n being the limit of tries: 11, 5 and 3 where it is 3
-abbrev pub perOrder : ℕ → ℕ
-perOrder n = 3 * n + 2
-
-abbrev pub perCall : ℕ → ℕ
-perCall n = n + 2
-
-abbrev pub perLoss : ℕ → ℕ
-perLoss n = n
-
--- the timeouts after which a partner that waits is released
-abbrev pub timeoutsToRelease : ℕ → ℕ
-timeoutsToRelease n = n
 
 -- what one partner counts for: the actions for it, and the accepted orders, calls 38 and losses that name it
 abbrev pub actionsOf : Partner → State → List (List ℕ) → ℕ

@@ -6,3 +6,6 @@ pub mod EitherOrder
 pub mod OrderMatters
 pub mod Interleaved
 pub mod Deliveries
+pub mod Sums
+pub mod Permuted
+pub mod PerEvent

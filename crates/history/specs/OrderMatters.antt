@@ -1,3 +1,4 @@
+-- Examples only: nobody has to believe what stands here.
 -- Request Q-11: where the promise ends. Pairs of records that do differ with their order, from a cold start with X 1 to 2 and three tries.
 -- Defines: Pair, codeAndNumbers, bothWays, pairs, lastBothWays, twoVersions.
 use Prim.Native.Nat.{ℕ}
@@ -8,7 +9,7 @@ use Rattle.unit.specs.OnRecords.{actionRoom, onRecord}
 use Rattle.unit.specs.declared.last.Last.{Last}
 use Rattle.unit.specs.declared.state.State.{State}
 use Rattle.history.specs.Histories.{after}
-use Rattle.history.specs.Reaching.{started}
+use Rattle.history.specs.Sums.{started}
 
 -- two records, and what came before them
 pub record Pair : Type 0 where

@@ -1,7 +1,8 @@
+-- Examples only: nobody has to believe what stands here.
 -- Document 01, "Worth of each promise": "the histories that reach them", from a cold start with X 1 to 2 and n tries and with one
 -- partner, RBC 5.
--- Defines: oneToTwo, started, rbc5, order5, drop5, up5, lost5, timeout5, version5, call5, ended5, retries, lossesIn, endedLate, ordering,
--- calling, repeated, reaching, Sums, sumsOf, counts, oneToNine, HeldTo.
+-- Defines: rbc5, order5, drop5, up5, lost5, timeout5, version5, call5, ended5, retries, lossesIn, endedLate, ordering, calling,
+-- repeated, reaching, oneToNine, HeldTo.
 use Prim.Native.Nat.{ℕ, zero, suc, _+_, _-_}
 use mathlib.Core.Path.{_≡_}
 use mathlib.Core.Bool.{true}
@@ -11,18 +12,9 @@ use Rattle.record.specs.Partners.{rbc}
 use Rattle.record.specs.declared.partner.Partner.{Partner}
 use Rattle.place.specs.Places.{vacant, heldPhase}
 use Rattle.place.specs.declared.phase.Phase.{Phase}
-use Rattle.place.specs.declared.limits.Limits.{Limits}
-use Rattle.unit.specs.States.{coldStart}
-use Rattle.unit.specs.declared.state.State.{State}
-use Rattle.history.specs.Histories.{after, orders, calls, losses, actions, silent, timeouts, holdsPlace, waits, timeoutsToRelease}
-
--- X 1 to 2, and n tries
-abbrev pub oneToTwo : ℕ → Limits
-oneToTwo n = record { lowest = 1; highest = 2; tries = n }
-
--- the state of the cold start
-abbrev pub started : ℕ → State
-started n = coldStart (oneToTwo n) .state
+use Rattle.history.specs.Histories.{after, silent, timeouts, holdsPlace, waits}
+use Rattle.history.specs.PerEvent.{timeoutsToRelease}
+use Rattle.history.specs.Sums.{started}
 
 -- the partner "RBC 5"
 abbrev pub rbc5 : Partner
@@ -83,26 +75,6 @@ unfoldable pub reaching : ℕ → ℕ → ℕ → ℕ → List (List ℕ)
 reaching n zero zero c = []
 reaching n zero (suc b) c = calling n c ++ repeated b (calling n 0)
 reaching n (suc a) b c = ordering n c ++ (repeated a (ordering n 0) ++ repeated b (calling n 0))
-
--- what demand 3 counts in a history
-pub record Sums : Type 0 where
-  pub orders : ℕ
-  pub calls : ℕ
-  pub losses : ℕ
-  pub actions : ℕ
-
-unfoldable pub sumsOf : ℕ → List (List ℕ) → Sums
-sumsOf n history =
-    record {
-      orders = orders (started n) history;
-      calls = calls (started n) history;
-      losses = losses (started n) history;
-      actions = actions (started n) history;
-    }
-
--- a orders, b calls, c losses and k actions
-abbrev pub counts : ℕ → ℕ → ℕ → ℕ → Sums
-counts a b c k = record { orders = a; calls = b; losses = c; actions = k }
 
 -- "n, 1 to 9"
 abbrev pub oneToNine : List ℕ

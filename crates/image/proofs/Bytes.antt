@@ -30,9 +30,12 @@ use Rattle.unit.specs.States.{placeCount, sound}
 use Rattle.unit.specs.declared.last.Last.{Last}
 use Rattle.unit.specs.declared.last.Last.the-variants.{Unknown, Known}
 use Rattle.unit.specs.declared.state.State.{State}
-use Rattle.image.specs.Images.{placeSize, placeBytes, placesBytes, markByte, bodyBytes, lastBytes}
+use Rattle.image.specs.Images.{placeSize, placeBytes, placesBytes, bodyBytes, lastBytes}
+use Rattle.wire.specs.Bytes.{asBit}
 use Rattle.image.specs.Images.{tailBytes, wholeBytes, imageA1, imageA2}
-use Rattle.image.specs.Images.{phaseOf, directionOf, placeIn, placesIn, tailAt, lastAt, lastIn, stateIn, sameBytes, isBodyOf}
+use Rattle.image.specs.Images.{phaseOf, directionOf, placeIn, placesIn, lastIn, stateIn, sameBytes, isBodyOf}
+use Rattle.image.specs.Images.{oldBodySize}
+use Rattle.image.specs.Bodies.{lastFrom}
 
 -- each value's byte stands for it again
 phaseOf-number : (ph : Phase) → phaseOf (phaseNumber ph) (tries ph) ≡ ph
@@ -46,7 +49,7 @@ directionOf-number : (d : Direction) → directionOf (directionNumber d) ≡ d
 directionOf-number Outgoing = refl
 directionOf-number Incoming = refl
 
-flag-mark : (b : Bool) → flag (markByte b) ≡ b
+flag-mark : (b : Bool) → flag (asBit b) ≡ b
 flag-mark true = refl
 flag-mark false = refl
 
@@ -97,7 +100,7 @@ lastBytes-length Unknown = refl
 lastBytes-length (Known high middle low) = refl
 
 module _ (s : State) (four : length (s .places) ≡ placeCount) where
-  pub bodyBytes-length : length (bodyBytes s) ≡ tailAt
+  pub bodyBytes-length : length (bodyBytes s) ≡ oldBodySize
   unfolding bodyBytes
   bodyBytes-length =
       let places = placesBytes-length (s .places) in
@@ -123,9 +126,9 @@ module _ (s : State) (four : length (s .places) ≡ placeCount) where
   imageA2-length = omega (arith, wholeBytes-length)
 
   -- what follows the body
-  pub whole-tail : drop tailAt (wholeBytes s) ≡ tailBytes s
+  pub whole-tail : drop oldBodySize (wholeBytes s) ≡ tailBytes s
   unfolding wholeBytes
-  whole-tail = drop-at (bodyBytes s) (tailBytes s) tailAt bodyBytes-length
+  whole-tail = drop-at (bodyBytes s) (tailBytes s) oldBodySize bodyBytes-length
 
   -- the bytes of a state with four places stand for it
   pub stateIn-whole : stateIn (wholeBytes s) ≡ s
@@ -146,15 +149,15 @@ module _ (s : State) (four : length (s .places) ≡ placeCount) where
         last = last-in i;
       }
     where
-      tries-in : byte (wholeBytes s) tailAt ≡ s .limits .tries
-      tries-in = sym (getD-drop tailAt (wholeBytes s) 0 0) ∙ ap (λ l. byte l 0) whole-tail
+      tries-in : byte (wholeBytes s) oldBodySize ≡ s .limits .tries
+      tries-in = sym (getD-drop oldBodySize (wholeBytes s) 0 0) ∙ ap (λ l. byte l 0) whole-tail
 
       places-in : placesIn placeCount (placesBytes (s .places) ++ tailBytes s) ≡ s .places
       places-in = ap (λ k. placesIn k (placesBytes (s .places) ++ tailBytes s)) (sym four) ∙ placesIn-bytes (s .places) (tailBytes s)
 
-      last-in : lastIn (drop lastAt (wholeBytes s)) ≡ s .last
+      last-in : lastIn (drop lastFrom (wholeBytes s)) ≡ s .last
       last-in =
-          ap lastIn (sym (drop-drop 1 tailAt (wholeBytes s)) ∙ ap (drop 1) whole-tail) ∙ lastIn-bytes (s .last)
+          ap lastIn (sym (drop-drop 1 oldBodySize (wholeBytes s)) ∙ ap (drop 1) whole-tail) ∙ lastIn-bytes (s .last)
 
 -- bytes compared
 pub same-bytes : (xs : List ℕ) → sameBytes xs xs ≡ true

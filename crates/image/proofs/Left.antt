@@ -21,7 +21,10 @@ use Rattle.place.specs.declared.place.Holding.the-variants.{Free, Held}
 use Rattle.place.specs.declared.place.Place.{Place}
 use Rattle.unit.specs.States.{placeCount, some, limitsOk, absentFrom}
 use Rattle.unit.proofs.Facts.{sound-facts}
-use Rattle.image.specs.Images.{sizeA2, placeSize, placeBytes, placesAt, tailAt, lastAt, lastBytes, wholeBytes, imageA2}
+use Rattle.image.specs.Images.{sizeA2, placeSize, placeBytes, lastBytes, wholeBytes, imageA2}
+use Rattle.image.specs.Images.{placesAt}
+use Rattle.image.specs.Images.{oldBodySize}
+use Rattle.image.specs.Bodies.{lastFrom}
 use Rattle.image.specs.Images.{stateIn, readA2}
 use Rattle.image.specs.Rescue.{mendPlace, mendPlaces, keep, keepFirst, mended, fieldOffsets, changed, listing}
 use Rattle.image.specs.Rescue.{spoilt, left, rescue, rescued}
@@ -100,11 +103,11 @@ left-places image i below =
     let s = mended (drop 1 image) in
     place-in-either s i (omega (arith, mended-four (drop 1 image))) (imageA2 s) (inl refl)
 
-pub left-tail : (image : List ℕ) → drop (1 + lastAt) (left image) ≡ lastBytes (mended (drop 1 image) .last)
+pub left-tail : (image : List ℕ) → drop (1 + lastFrom) (left image) ≡ lastBytes (mended (drop 1 image) .last)
 unfolding imageA2
 left-tail image =
     let s = mended (drop 1 image) in
-    sym (drop-drop 1 tailAt (wholeBytes s)) ∙ ap (drop 1) (whole-tail s (mended-four (drop 1 image)))
+    sym (drop-drop 1 oldBodySize (wholeBytes s)) ∙ ap (drop 1) (whole-tail s (mended-four (drop 1 image)))
 
 -- the place with a number, by itself and among those below it
 pub mendPlaces-at : (l : Limits) (k : ℕ) (s : List ℕ) (i : ℕ)

@@ -6,4 +6,4 @@ pub mod Mending
 pub mod Rescuing
 pub mod Left
 pub mod OneAnswer
-pub mod Agreed
+pub mod Again

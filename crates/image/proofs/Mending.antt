@@ -27,7 +27,9 @@ use Rattle.unit.specs.declared.state.State.{State}
 use Rattle.unit.proofs.Facts.{sound-facts, facts-sound, places-facts, facts-places}
 use Rattle.wire.specs.Blocks.{blocks}
 use Rattle.image.specs.Images.{placeSize, placeBytes, placesBytes, bodyBytes, lastBytes, tailBytes, wholeBytes, placeIn}
-use Rattle.image.specs.Images.{headSize, tailAt, lastAt, lastIn, stateIn, sameBytes}
+use Rattle.image.specs.Images.{headSize, lastIn, stateIn, sameBytes}
+use Rattle.image.specs.Images.{oldBodySize}
+use Rattle.image.specs.Bodies.{lastFrom}
 use Rattle.image.specs.Rescue.{within, mendTrain, mendMarks, isPlaceOf, mendPlace, mendPlaces, keep, keepFirst}
 use Rattle.image.specs.Rescue.{isLastOf, mendLast, mended}
 use Rattle.image.proofs.Bytes.{placeBytes-length, placeIn-bytes, stateIn-whole, whole-tail, same-bytes}
@@ -154,7 +156,7 @@ mended-sound body good =
       places =
           places-facts l (keepFirst [] by-themselves)
           (keepFirst-ok l [] by-themselves (mendPlaces-ok l placeCount (drop headSize body)));
-      last = last-ok (drop lastAt body);
+      last = last-ok (drop lastFrom body);
     })
 
 -- and of a sound state's own bytes nothing is lost
@@ -314,7 +316,7 @@ mended-whole s good =
         ∙ ap (keepFirst []) (mendPlaces-same (s .limits) (s .places) (tailBytes s) ok)
         ∙ keepFirst-same (s .limits) [] (s .places) (none (s .places)) ok
 
-    last : mendLast (drop lastAt (wholeBytes s)) ≡ s .last
+    last : mendLast (drop lastFrom (wholeBytes s)) ≡ s .last
     last =
-        ap mendLast (sym (drop-drop 1 tailAt (wholeBytes s)) ∙ ap (drop 1) (whole-tail s four))
+        ap mendLast (sym (drop-drop 1 oldBodySize (wholeBytes s)) ∙ ap (drop 1) (whole-tail s four))
         ∙ last-same (s .last) (sound-facts s good .last)

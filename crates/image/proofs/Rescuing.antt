@@ -29,9 +29,12 @@ use Rattle.unit.specs.declared.last.Last.{Last}
 use Rattle.unit.specs.declared.last.Last.the-variants.{Unknown}
 use Rattle.unit.specs.declared.state.State.{State}
 use Rattle.unit.specs.declared.start.Started.{Started}
-use Rattle.image.specs.Images.{placeSize, placeBytes, headSize, lastSize, lastBytes, placesAt, lastAt, placeIn, lastIn, sameBytes}
+use Rattle.image.specs.Images.{placeSize, placeBytes, headSize, lastSize, lastBytes, placeIn, lastIn, sameBytes}
+use Rattle.image.specs.Images.{placesAt}
+use Rattle.image.specs.Images.{lastAt}
 use Rattle.image.specs.Rescue.{within, mendPlace, mendPlaces, keep, keepFirst, isLastOf, mendLast}
-use Rattle.image.specs.Images.{kindA2, sizeA2, imageA2, stateIn, readRefused, readBody, ofLength, readA2}
+use Rattle.image.specs.Images.{kindA2, sizeA2, imageA2, stateIn, readRefused, readA2}
+use Rattle.image.specs.Bodies.{readBody, ofLength}
 use Rattle.image.specs.Rescue.{fieldOffsets, mostFields, sizeOf, part, changed, listing, spoilt, left, rescue, rescued}
 
 pub within-kept : (most n : ℕ) → n ≤ most → n ≡ within most n
@@ -162,15 +165,15 @@ limits-started l = by (limitsOk l)
 
 -- the bytes of the fields
 pub sizeOf-mark : (at : ℕ) → at < placesAt → 1 ≡ sizeOf at
-sizeOf-mark at h = sym (ap (λ b. cond b (cond (leb (1 + lastAt) at) lastSize placeSize) 1) (lt-leb placesAt at h))
+sizeOf-mark at h = sym (ap (λ b. cond b (cond (leb lastAt at) lastSize placeSize) 1) (lt-leb placesAt at h))
 
-pub sizeOf-place : (at : ℕ) → placesAt ≤ at → at < 1 + lastAt → placeSize ≡ sizeOf at
+pub sizeOf-place : (at : ℕ) → placesAt ≤ at → at < lastAt → placeSize ≡ sizeOf at
 sizeOf-place at h g =
-    sym (ap₂ (λ a b. cond a (cond b lastSize placeSize) 1) (le-leb placesAt at h) (lt-leb (1 + lastAt) at g))
+    sym (ap₂ (λ a b. cond a (cond b lastSize placeSize) 1) (le-leb placesAt at h) (lt-leb lastAt at g))
 
-pub sizeOf-last : (at : ℕ) → placesAt ≤ at → 1 + lastAt ≤ at → lastSize ≡ sizeOf at
+pub sizeOf-last : (at : ℕ) → placesAt ≤ at → lastAt ≤ at → lastSize ≡ sizeOf at
 sizeOf-last at h g =
-    sym (ap₂ (λ a b. cond a (cond b lastSize placeSize) 1) (le-leb placesAt at h) (le-leb (1 + lastAt) at g))
+    sym (ap₂ (λ a b. cond a (cond b lastSize placeSize) 1) (le-leb placesAt at h) (le-leb lastAt at g))
 
 -- the list of changed fields, one field more
 module _ (old new : List ℕ) where

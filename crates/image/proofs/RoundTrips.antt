@@ -22,9 +22,11 @@ use Rattle.unit.specs.declared.state.State.{State}
 use Rattle.unit.specs.declared.start.Started.{Started}
 use Rattle.unit.proofs.Facts.{sound-facts}
 use Rattle.image.specs.Images.{kindA1, kindA2, sizeA1, sizeA2, placeSize, placeBytes, bodyBytes, lastBytes, tailBytes, wholeBytes}
-use Rattle.image.specs.Images.{imageA1, imageA2, fitsA1, placesAt, tailAt, stateIn, readRefused, isBodyOf}
-use Rattle.image.specs.Images.{readBody, tailOfA1, ofLength, readA2, readImage}
-use Rattle.image.proofs.Agreed.Writing.{fitsA1-means}
+use Rattle.image.specs.Images.{imageA1, imageA2, fitsA1, placesAt, stateIn, readRefused, isBodyOf}
+use Rattle.image.specs.Images.{oldBodySize}
+use Rattle.image.specs.Images.{tailOfA1, readA2, readImage}
+use Rattle.image.specs.Bodies.{readBody, ofLength}
+use Rattle.image.proofs.Again.Writing.{fitsA1-means}
 use Rattle.image.proofs.Bytes.{bodyBytes-length, stateIn-whole, imageA1-length, imageA2-length}
 use Rattle.image.proofs.Bytes.{isBodyOf-means, place-bytes-at, zeros-free, free-zeros}
 
@@ -122,7 +124,7 @@ pub written-read : (bytes : List ℕ)
     → (sound (readImage bytes .state) ≡ true)
     × ((imageA2 (readImage bytes .state) ≡ bytes)
     ⊎ ((fitsA1 (readImage bytes .state) ≡ true) × (imageA1 (readImage bytes .state) ≡ bytes)))
-unfolding readImage imageA1 wholeBytes
+unfolding readImage readA2 imageA1 wholeBytes
 written-read [] = λ h. absurd (omega arith)
 written-read (kind ∷ body) =
     cond-case (ReadAs P) (eqb kind kindA1) (ofLength sizeA1 (kind ∷ body) (body ++ tailOfA1)) (readA2 (kind ∷ body))
@@ -131,9 +133,13 @@ written-read (kind ∷ body) =
     (λ long t ok own.
     let front = bodyBytes-length t (sound-facts t ok .four) in
     let fits =
-    sym (drop-at (bodyBytes t) (tailBytes t) tailAt front) ∙ ap (drop tailAt) own ∙ drop-at body tailOfA1 tailAt (omega arith) in
+    sym (drop-at (bodyBytes t) (tailBytes t) oldBodySize front)
+    ∙ ap (drop oldBodySize) own
+    ∙ drop-at body tailOfA1 oldBodySize (omega arith) in
     let own-body =
-    sym (take-at (bodyBytes t) (tailBytes t) tailAt front) ∙ ap (take tailAt) own ∙ take-at body tailOfA1 tailAt (omega arith) in
+    sym (take-at (bodyBytes t) (tailBytes t) oldBodySize front)
+    ∙ ap (take oldBodySize) own
+    ∙ take-at body tailOfA1 oldBodySize (omega arith) in
     inr (tail-fits t fits, ap₂ _∷_ (sym (eqb-true kind kindA1 known)) own-body)))
     (λ other h.
     let a2 = writtenA2-read (kind ∷ body) h in

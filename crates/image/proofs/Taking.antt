@@ -23,8 +23,11 @@ use Rattle.unit.specs.States.{placeCount, sound}
 use Rattle.unit.specs.declared.last.Last.the-variants.{Unknown, Known}
 use Rattle.unit.specs.declared.state.State.{State}
 use Rattle.image.specs.Images.{kindA1, kindA2, sizeA1, sizeA2, wholeBytes, imageA2, phaseOf}
-use Rattle.image.specs.Images.{directionOf, heldIn, placeIn, tailAt, lastAt, lastIn}
-use Rattle.image.specs.Images.{stateIn, sameBytes, readRefused, isBodyOf, readBody, tailOfA1, readA2, readImage}
+use Rattle.image.specs.Images.{directionOf, heldIn, placeIn, lastIn}
+use Rattle.image.specs.Images.{oldBodySize}
+use Rattle.image.specs.Bodies.{lastFrom}
+use Rattle.image.specs.Images.{stateIn, sameBytes, readRefused, isBodyOf, tailOfA1, readA2, readImage}
+use Rattle.image.specs.Bodies.{readBody}
 use Rattle.image.proofs.Bytes.{bytes-same, wholeBytes-length}
 
 module _ (s : List ℕ) (at : ℕ) where
@@ -57,27 +60,27 @@ module _ (s : List ℕ) (at : ℕ) where
       ∙ sym (ap (λ t. cond t vacant (heldIn (drop at s))) (ne-eqb (byte (drop at s) 0) 0 (λ z. some (e₀ ∙ sym byte-here ∙ z))))
 
 -- a first byte of 0 is no last known RBC
-module _ (s : List ℕ) (flag : ℕ) (read : flag ≡ getD s lastAt 0) where
-  pub last-none : flag ≡ 0 → Unknown ≡ lastIn (drop lastAt s)
+module _ (s : List ℕ) (flag : ℕ) (read : flag ≡ getD s lastFrom 0) where
+  pub last-none : flag ≡ 0 → Unknown ≡ lastIn (drop lastFrom s)
   last-none none =
-      let b = drop lastAt s in
+      let b = drop lastFrom s in
       sym
       (ap (λ t. cond t Unknown (Known (byte b 1) (byte b 2) (byte b 3)))
-      (eq-eqb (byte b 0) 0 (byte-here s lastAt ∙ sym read ∙ none)))
+      (eq-eqb (byte b 0) 0 (byte-here s lastFrom ∙ sym read ∙ none)))
 
   pub last-some : (high middle low : ℕ)
-      → high ≡ getD s (lastAt + 1) 0
-      → middle ≡ getD s (lastAt + 2) 0
-      → low ≡ getD s (lastAt + 3) 0
+      → high ≡ getD s (lastFrom + 1) 0
+      → middle ≡ getD s (lastFrom + 2) 0
+      → low ≡ getD s (lastFrom + 3) 0
       → (flag ≡ 0 → ⊥)
-      → Known high middle low ≡ lastIn (drop lastAt s)
+      → Known high middle low ≡ lastIn (drop lastFrom s)
   last-some high middle low e₁ e₂ e₃ some =
-      let b = drop lastAt s in
-      let at : (k : ℕ) → getD s (lastAt + k) 0 ≡ byte b k = λ k. sym (getD-drop lastAt s k 0) in
+      let b = drop lastFrom s in
+      let at : (k : ℕ) → getD s (lastFrom + k) 0 ≡ byte b k = λ k. sym (getD-drop lastFrom s k 0) in
       (λ i. Known ((e₁ ∙ at 1) i) ((e₂ ∙ at 2) i) ((e₃ ∙ at 3) i))
       ∙ sym
       (ap (λ t. cond t Unknown (Known (byte b 1) (byte b 2) (byte b 3)))
-      (ne-eqb (byte b 0) 0 (λ z. some (read ∙ sym (byte-here s lastAt) ∙ z))))
+      (ne-eqb (byte b 0) 0 (λ z. some (read ∙ sym (byte-here s lastFrom) ∙ z))))
 
 -- bytes compared one after the other
 module _ (a b : List ℕ) (i : ℕ) (so-far : sameBytes a b ≡ sameBytes (drop i a) (drop i b)) where
@@ -140,7 +143,7 @@ read-a2-whole [] some known all = absurd (some refl)
 read-a2-whole (kind ∷ body) some known all = simp (eq-eqb kind kindA2 known, eq-eqb (length (kind ∷ body)) sizeA2 all)
 
 pub read-empty : (bytes : List ℕ) → length bytes ≡ 0 → readRefused wrongLength ≡ readImage bytes
-unfolding readImage
+unfolding readImage readA2
 read-empty [] h = refl
 read-empty (kind ∷ body) h = absurd (omega arith)
 
@@ -200,17 +203,17 @@ image-body s image zeros four all wrote =
 abbrev pub CopiedTo : List ℕ → ℕ → List ℕ
 CopiedTo body i = paste (replicate 41 0) 0 body i
 
-module _ (body : List ℕ) (long : length body ≡ tailAt) where
-  pub copy-more : (i : ℕ) → i < tailAt → set (CopiedTo body i) i (getD body i 0) ≡ CopiedTo body (i + 1)
+module _ (body : List ℕ) (long : length body ≡ oldBodySize) where
+  pub copy-more : (i : ℕ) → i < oldBodySize → set (CopiedTo body i) i (getD body i 0) ≡ CopiedTo body (i + 1)
   copy-more i below =
       ap (λ k. set (CopiedTo body i) k (getD body i 0)) (sym (zero-add i))
       ∙ paste-suc (replicate 41 0) 0 body i 0 (omega arith) (omega (arith, long))
       ∙ ap (CopiedTo body) (sym (add-one i))
 
-  pub copy-length : (i : ℕ) → i ≤ tailAt → length (CopiedTo body i) ≡ 41
+  pub copy-length : (i : ℕ) → i ≤ oldBodySize → length (CopiedTo body i) ≡ 41
   copy-length i below = length-paste (replicate 41 0) 0 body i (omega arith) (omega (arith, long))
 
-  pub copy-end : set (CopiedTo body tailAt) tailAt fleetTries ≡ body ++ tailOfA1
+  pub copy-end : set (CopiedTo body oldBodySize) oldBodySize fleetTries ≡ body ++ tailOfA1
   copy-end =
-      ap (λ l. set (l ++ replicate 5 0) tailAt fleetTries) (take-all tailAt body (omega (arith, long)))
-      ∙ set-at body 0 (replicate 4 0) fleetTries tailAt long
+      ap (λ l. set (l ++ replicate 5 0) oldBodySize fleetTries) (take-all oldBodySize body (omega (arith, long)))
+      ∙ set-at body 0 (replicate 4 0) fleetTries oldBodySize long

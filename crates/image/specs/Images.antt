@@ -1,16 +1,18 @@
 -- Document 01, "Stored image", and request Q-4: the bytes of a state as A1 and as A2, and the state of such bytes.
--- Defines: kindA1, kindA2, sizeA1, sizeA2, placeSize, placeBytes, placesBytes, markByte, headBytes, bodyBytes, lastSize, lastBytes,
--- tailBytes, wholeBytes, imageA1, imageA2, isUnknown, fitsA1, writeRefused, writeAccepted, writeA2, writeA1, imagedA2, imagedA1, phaseOf,
--- directionOf, heldIn, placeIn, placesIn, headSize, placesAt, tailAt, lastAt, lastIn, stateIn, sameBytes, readRefused, isBodyOf,
--- readBody, tailOfA1, ofLength, readA2, readImage.
+-- Defines: kindA1, kindA2, sizeA1, sizeA2, placeSize, placeBytes, placesBytes, headBytes, bodyBytes, lastSize, lastBytes, tailBytes,
+-- wholeBytes, imageA1, imageA2, isUnknown, fitsA1, writeRefused, writeAccepted, needsA2, needsA1, writeA2, writeA1, imagedA2, imagedA1,
+-- phaseOf, directionOf, heldIn, placeIn, placesIn, headSize, oldBodySize, placesAt, lastAt, lastIn, stateIn, sameBytes, readRefused,
+-- isBodyOf, tailOfA1, readAs, readA2, readImage.
 use Prim.Native.Nat.{ℕ, zero, suc, _+_, _*_}
-use mathlib.Core.Bool.{Bool, true, false, cond, _&&_}
+use mathlib.Core.Bool.{Bool, true, false, cond, _&&_, not}
 use mathlib.Core.List.{List, [], _∷_, _++_}
 use lib.Dec.{eqb, leb}
 use lib.ListN.{length, drop, replicate}
 use Rattle.wire.specs.Blocks.{blocks}
-use Rattle.wire.specs.Bytes.{byte, flag}
+use Rattle.wire.specs.Bytes.{byte, isEmpty, flag, asBit}
+use Rattle.wire.specs.Orders.{firstThatApplies}
 use Rattle.wire.specs.Refusals.{accepted, wrongLength, unknownKind, noRoom, notSound, notInA1}
+use Rattle.record.specs.Partners.{partnerAt, partnerBytes}
 use Rattle.place.specs.Places.{phaseNumber, tries, directionNumber, fleetTries, vacant, seat, onHolding}
 use Rattle.place.specs.declared.phase.Phase.{Phase}
 use Rattle.place.specs.declared.phase.Phase.the-variants.{Connecting, Contacting, Open, Lost, Ending}
@@ -46,28 +48,24 @@ placeSize = 7
 abbrev pub placeBytes : Place → List ℕ
 placeBytes place =
     onHolding (replicate placeSize 0)
-    (λ d ph p. phaseNumber ph ∷ directionNumber d ∷ tries ph ∷ p .kind ∷ p .high ∷ p .middle ∷ p .low ∷ [])
+    (λ d ph p. phaseNumber ph ∷ directionNumber d ∷ tries ph ∷ partnerBytes p)
     (place .holding)
 
 -- the bytes of the places, one after the other
 abbrev pub placesBytes : List Place → List ℕ
 placesBytes = blocks placeBytes
 
--- a mark's byte: 0 or 1
-abbrev pub markByte : Bool → ℕ
-markByte m = cond m 1 0
-
--- "lowest X, highest X, level, mission; the marks in the order listed above"
+-- "lowest X, highest X, level, mission; the marks in the order listed above"; "Otherwise each byte is the value itself"
 abbrev pub headBytes : State → List ℕ
 headBytes s =
     s .limits .lowest
     ∷ s .limits .highest
     ∷ s .train .level
     ∷ s .train .mission
-    ∷ markByte (s .marks .inside)
-    ∷ markByte (s .marks .mode)
-    ∷ markByte (s .marks .manual)
-    ∷ markByte (s .marks .end)
+    ∷ asBit (s .marks .inside)
+    ∷ asBit (s .marks .mode)
+    ∷ asBit (s .marks .manual)
+    ∷ asBit (s .marks .end)
     ∷ []
 
 -- the 36 bytes of both kinds after the first
@@ -86,6 +84,7 @@ lastBytes (Known high middle low) = 1 ∷ high ∷ middle ∷ low ∷ []
 abbrev pub tailBytes : State → List ℕ
 tailBytes s = s .limits .tries ∷ lastBytes (s .last)
 
+-- all of A2 behind its kind
 unfoldable pub wholeBytes : State → List ℕ
 wholeBytes s = bodyBytes s ++ tailBytes s
 
@@ -96,7 +95,7 @@ imageA1 s = kindA1 ∷ bodyBytes s
 unfoldable pub imageA2 : State → List ℕ
 imageA2 s = kindA2 ∷ wholeBytes s
 
--- Q-4: "A1 can hold neither the last RBC nor n": the state fits it where n is 3 and none is known
+-- Q-4: "A1 can hold neither the last RBC nor n"; "Going back to A1 is possible exactly when" n is 3 and none is known
 abbrev pub isUnknown : Last → Bool
 isUnknown Unknown = true
 isUnknown (Known high middle low) = false
@@ -112,27 +111,28 @@ abbrev pub writeAccepted : ℕ → State → Stored
 writeAccepted size s = record { code = accepted; state = s; count = size }
 
 -- "Image write: 10, 11": room is the length of the buffer; Q-4: "Image buffers must have 42 bytes for A2"
+abbrev pub needsA2 : State → ℕ → List (Bool × ℕ)
+needsA2 s room = (leb sizeA2 room, noRoom) ∷ (sound s, notSound) ∷ []
+
+-- "Image write: 10, 11"; "image buffer under 37"; Q-4: "16, the state doesn't fit A1, after 10 and 11"
+abbrev pub needsA1 : State → ℕ → List (Bool × ℕ)
+needsA1 s room = (leb sizeA1 room, noRoom) ∷ (sound s, notSound) ∷ (fitsA1 s, notInA1) ∷ []
+
+-- what a write answers
 unfoldable pub writeA2 : State → ℕ → Stored
-writeA2 s room =
-    cond (leb sizeA2 room) (cond (sound s) (writeAccepted sizeA2 s) (writeRefused notSound s)) (writeRefused noRoom s)
+writeA2 s room = firstThatApplies (λ r. writeRefused r s) (needsA2 s room) (writeAccepted sizeA2 s)
 
--- Q-4: "16, the state doesn't fit A1, after 10 and 11"
 unfoldable pub writeA1 : State → ℕ → Stored
-writeA1 s room =
-    cond (leb sizeA1 room)
-    (cond (sound s) (cond (fitsA1 s) (writeAccepted sizeA1 s) (writeRefused notInA1 s)) (writeRefused notSound s))
-    (writeRefused noRoom s)
+writeA1 s room = firstThatApplies (λ r. writeRefused r s) (needsA1 s room) (writeAccepted sizeA1 s)
 
--- the buffer after a write: "An accepted call writes only its .. image; later bytes stay"
+-- the buffer after a write: "An accepted call writes only its .. image; later bytes stay"; a refused one "writes nothing"
 unfoldable pub imagedA2 : State → List ℕ → List ℕ
-imagedA2 s buffer =
-    cond (leb sizeA2 (length buffer)) (cond (sound s) (imageA2 s ++ drop sizeA2 buffer) buffer) buffer
+imagedA2 s buffer = firstThatApplies (λ r. buffer) (needsA2 s (length buffer)) (imageA2 s ++ drop sizeA2 buffer)
 
 unfoldable pub imagedA1 : State → List ℕ → List ℕ
-imagedA1 s buffer =
-    cond (leb sizeA1 (length buffer)) (cond (sound s) (cond (fitsA1 s) (imageA1 s ++ drop sizeA1 buffer) buffer) buffer) buffer
+imagedA1 s buffer = firstThatApplies (λ r. buffer) (needsA1 s (length buffer)) (imageA1 s ++ drop sizeA1 buffer)
 
--- Reading an image: it is accepted exactly when these bytes are the image of a sound state (`readBody`; that it is so are the promises
+-- Reading an image: it is accepted exactly when these bytes are the image of a sound state (`readAs`; that it is so are the promises
 -- `read-written` and `written-read`). The one state that can write them is found by decoding. Bytes that no state writes decode to
 -- some state too, and that one writes others.
 
@@ -149,8 +149,7 @@ directionOf number = cond (eqb number (directionNumber Outgoing)) Outgoing Incom
 -- "phase, direction, tries, partner"
 abbrev pub heldIn : List ℕ → Place
 heldIn s =
-    seat (directionOf (byte s 1)) (phaseOf (byte s 0) (byte s 2))
-    (record { kind = byte s 3; high = byte s 4; middle = byte s 5; low = byte s 6 })
+    seat (directionOf (byte s 1)) (phaseOf (byte s 0) (byte s 2)) (partnerAt 3 s)
 
 -- the place that the next seven bytes stand for: free where the phase is 0
 abbrev pub placeIn : List ℕ → Place
@@ -164,16 +163,16 @@ placesIn (suc k) s = placeIn s ∷ placesIn k (drop placeSize s)
 abbrev pub headSize : ℕ
 headSize = 8
 
--- where the places of an image begin
+-- "the 36 old body bytes": the head and the places, which n and the last known RBC follow
+abbrev pub oldBodySize : ℕ
+oldBodySize = headSize + placeCount * placeSize
+
+-- where the places and the last known RBC of an image begin
 abbrev pub placesAt : ℕ
 placesAt = 1 + headSize
 
--- where n stands in a body of A2, after its head and its places, and where the last known RBC
-abbrev pub tailAt : ℕ
-tailAt = headSize + placeCount * placeSize
-
 abbrev pub lastAt : ℕ
-lastAt = tailAt + 1
+lastAt = placesAt + placeCount * placeSize + 1
 
 -- the last known RBC that four bytes stand for: none where the first is 0
 abbrev pub lastIn : List ℕ → Last
@@ -183,11 +182,11 @@ lastIn s = cond (eqb (byte s 0) 0) Unknown (Known (byte s 1) (byte s 2) (byte s 
 unfoldable pub stateIn : List ℕ → State
 stateIn s =
     record {
-      limits = record { lowest = byte s 0; highest = byte s 1; tries = byte s tailAt };
+      limits = record { lowest = byte s 0; highest = byte s 1; tries = byte s oldBodySize };
       train = record { level = byte s 2; mission = byte s 3 };
       marks = record { inside = flag (byte s 4); mode = flag (byte s 5); manual = flag (byte s 6); end = flag (byte s 7) };
       places = placesIn placeCount (drop headSize s);
-      last = lastIn (drop lastAt s);
+      last = lastIn (drop (1 + oldBodySize) s);
     }
 
 unfoldable pub sameBytes : List ℕ → List ℕ → Bool
@@ -199,31 +198,31 @@ sameBytes (x ∷ xs) (y ∷ ys) = eqb x y && sameBytes xs ys
 abbrev pub readRefused : ℕ → Started
 readRefused r = record { code = r; state = cold noLimits }
 
--- these bytes are the body of the image of this state, and the state is sound
+-- these bytes are the body of the image of this state, and the state is sound: "no other bytes mean free"
 abbrev pub isBodyOf : State → List ℕ → Bool
 isBodyOf s body = sound s && sameBytes (wholeBytes s) body
-
--- accepted exactly where these bytes are the body of the image A2 of a sound state, which is then the one that they decode to
-abbrev pub readBody : List ℕ → Started
-readBody body =
-    cond (isBodyOf (stateIn body) body)
-    (record { code = accepted; state = stateIn body })
-    (readRefused notSound)
 
 -- Q-4: "A1 is read as n = 3 and none known": what A2 has after the body of A1
 abbrev pub tailOfA1 : List ℕ
 tailOfA1 = fleetTries ∷ lastBytes Unknown
 
--- "1 (length), 11": the bytes of an image of this size, and its body as A2 has it
-abbrev pub ofLength : ℕ → List ℕ → List ℕ → Started
-ofLength size image body = cond (eqb (length image) size) (readBody body) (readRefused wrongLength)
+-- "Image read: 1 (empty), 2, 1 (length), 11": whether the first byte is a kind that is read, the size of that kind, the bytes behind it as
+-- A2 has them (for A1 with `tailOfA1` added), and the image. It is accepted exactly where these bytes are the body of the image of a sound
+-- state, which is then the one that they decode to
+abbrev pub readAs : Bool → ℕ → List ℕ → List ℕ → Started
+readAs known size body image =
+    firstThatApplies readRefused
+    ((not (isEmpty image), wrongLength)
+    ∷ (known, unknownKind)
+    ∷ (eqb (length image) size, wrongLength)
+    ∷ (isBodyOf (stateIn body) body, notSound)
+    ∷ [])
+    (record { code = accepted; state = stateIn body })
 
--- "Image read: 1 (empty), 2, 1 (length), 11", of A2 alone: the kind of any other image is unknown
+-- of A2 alone: the kind of any other image is unknown
 unfoldable pub readA2 : List ℕ → Started
-readA2 [] = readRefused wrongLength
-readA2 (kind ∷ body) = cond (eqb kind kindA2) (ofLength sizeA2 (kind ∷ body) body) (readRefused unknownKind)
+readA2 image = readAs (eqb (byte image 0) kindA2) sizeA2 (drop 1 image) image
 
 -- and of either kind
 unfoldable pub readImage : List ℕ → Started
-readImage [] = readRefused wrongLength
-readImage (kind ∷ body) = cond (eqb kind kindA1) (ofLength sizeA1 (kind ∷ body) (body ++ tailOfA1)) (readA2 (kind ∷ body))
+readImage image = cond (eqb (byte image 0) kindA1) (readAs true sizeA1 (drop 1 image ++ tailOfA1) image) (readA2 image)

@@ -1,9 +1,8 @@
 -- Request Q-13: a spoilt image A2 is mended, and what was mended is listed.
--- Defines: within, mendTrain, mendMarks, isPlaceOf, mendPlace, mendPlaces, keep, keepFirst, isLastOf, mendLast, mended,
--- fieldOffsets, mostFields, sizeOf, part, changed, listing, told, spoilt, left, rescue, rescued, isIn, ascends, spoiltExample,
--- mendedExample, everyExample.
+-- Defines: within, mendTrain, mendMarks, isPlaceOf, mendPlace, mendPlaces, keep, keepFirst, isLastOf, mendLast, mended, fieldOffsets,
+-- mostFields, sizeOf, part, changed, listing, told, spoilt, left, rescue, rescued.
 use Prim.Native.Nat.{ℕ, zero, suc, _+_}
-use mathlib.Core.Bool.{Bool, true, false, cond, _&&_, _||_, not}
+use mathlib.Core.Bool.{Bool, cond, _&&_, not}
 use mathlib.Core.List.{List, [], _∷_, _++_}
 use lib.Dec.{eqb, leb}
 use lib.ListN.{length, take, drop, replicate}
@@ -19,8 +18,8 @@ use Rattle.unit.specs.declared.last.Last.the-variants.{Unknown}
 use Rattle.unit.specs.declared.state.Train.{Train}
 use Rattle.unit.specs.declared.state.Marks.{Marks}
 use Rattle.unit.specs.declared.state.State.{State}
-use Rattle.image.specs.Images.{placeSize, placeBytes, placesAt, headSize, lastSize, lastBytes, imageA2, placeIn}
-use Rattle.image.specs.Images.{lastAt, lastIn, stateIn, sameBytes, readA2}
+use Rattle.image.specs.Images.{placeSize, placeBytes, headSize, oldBodySize, lastSize, lastBytes, imageA2, placeIn}
+use Rattle.image.specs.Images.{placesAt, lastAt, lastIn, stateIn, sameBytes, readA2}
 use Rattle.image.specs.declared.rescue.Rescued.{Rescued}
 
 -- "Level, mission or a mark out of range becomes 0": a mark is read as 1 or not, so that one out of range is read as 0
@@ -71,7 +70,7 @@ mended body =
       train = mendTrain (stateIn body .train);
       marks = mendMarks (stateIn body .marks);
       places = keepFirst [] (mendPlaces (stateIn body .limits) placeCount (drop headSize body));
-      last = mendLast (drop lastAt body);
+      last = mendLast (drop (1 + oldBodySize) body);
     }
 
 -- the fields that can change, by their first offset: level, mission, the four marks, the four places, the last RBC
@@ -83,7 +82,7 @@ mostFields = 11
 
 -- the bytes of the field that begins here
 abbrev pub sizeOf : ℕ → ℕ
-sizeOf at = cond (leb placesAt at) (cond (leb (1 + lastAt) at) lastSize placeSize) 1
+sizeOf at = cond (leb placesAt at) (cond (leb lastAt at) lastSize placeSize) 1
 
 abbrev pub part : ℕ → List ℕ → List ℕ
 part at image = take (sizeOf at) (drop at image)
@@ -114,56 +113,6 @@ unfoldable pub rescue : List ℕ → Rescued
 rescue image =
     cond (spoilt image) (listing accepted (changed fieldOffsets image (left image))) (listing (readA2 image .code) [])
 
+-- "The result is sound; a sound image is unchanged ..; a second rescue changes nothing": the bytes after it
 unfoldable pub rescued : List ℕ → List ℕ
 rescued image = cond (spoilt image) (left image) image
-
--- a number is in a list, and a list ascends from a number on
-unfoldable pub isIn : ℕ → List ℕ → Bool
-isIn n [] = false
-isIn n (m ∷ rest) = eqb n m || isIn n rest
-
-unfoldable pub ascends : ℕ → List ℕ → Bool
-ascends from [] = true
-ascends from (n ∷ rest) = leb from n && ascends (suc n) rest
-
--- an image with three tries: inside 7 beside a hole end of 1; RBC 5 with four tries, then twice good; a free place with another byte
--- than 0; the reserved RBC as the last known one
-abbrev pub spoiltExample : List ℕ
-spoiltExample =
-    0xA2
-    ∷ 1 ∷ 2 ∷ 2 ∷ 1
-    ∷ 7 ∷ 0 ∷ 1 ∷ 1
-    ∷ 1 ∷ 0 ∷ 4 ∷ 0 ∷ 0 ∷ 0 ∷ 5
-    ∷ 3 ∷ 0 ∷ 0 ∷ 0 ∷ 0 ∷ 0 ∷ 5
-    ∷ 4 ∷ 0 ∷ 1 ∷ 0 ∷ 0 ∷ 0 ∷ 5
-    ∷ 0 ∷ 0 ∷ 0 ∷ 0 ∷ 0 ∷ 0 ∷ 9
-    ∷ 3
-    ∷ 1 ∷ 0 ∷ 63 ∷ 255
-    ∷ []
-
-abbrev pub mendedExample : List ℕ
-mendedExample =
-    0xA2
-    ∷ 1 ∷ 2 ∷ 2 ∷ 1
-    ∷ 0 ∷ 0 ∷ 1 ∷ 1
-    ∷ 0 ∷ 0 ∷ 0 ∷ 0 ∷ 0 ∷ 0 ∷ 0
-    ∷ 3 ∷ 0 ∷ 0 ∷ 0 ∷ 0 ∷ 0 ∷ 5
-    ∷ 0 ∷ 0 ∷ 0 ∷ 0 ∷ 0 ∷ 0 ∷ 0
-    ∷ 0 ∷ 0 ∷ 0 ∷ 0 ∷ 0 ∷ 0 ∷ 0
-    ∷ 3
-    ∷ 0 ∷ 0 ∷ 0 ∷ 0
-    ∷ []
-
--- one in which every field that can change is bad
-abbrev pub everyExample : List ℕ
-everyExample =
-    0xA2
-    ∷ 0 ∷ 7 ∷ 5 ∷ 3
-    ∷ 4 ∷ 2 ∷ 9 ∷ 255
-    ∷ 1 ∷ 0 ∷ 4 ∷ 0 ∷ 0 ∷ 0 ∷ 5
-    ∷ 6 ∷ 0 ∷ 1 ∷ 0 ∷ 0 ∷ 0 ∷ 6
-    ∷ 3 ∷ 1 ∷ 0 ∷ 1 ∷ 0 ∷ 0 ∷ 7
-    ∷ 0 ∷ 0 ∷ 0 ∷ 0 ∷ 0 ∷ 0 ∷ 8
-    ∷ 3
-    ∷ 0 ∷ 0 ∷ 0 ∷ 7
-    ∷ []

@@ -5,7 +5,8 @@ ghost use mathlib.Core.Bool.{true};
 ghost use mathlib.Core.List.{List, [], _∷_, _++_};
 ghost use lib.ListN.{length, set, take, drop};
 ghost use Rattle.unit.specs.States.{placeCount, limitsOk, absentFrom};
-ghost use Rattle.image.specs.Images.{headSize, placeBytes, lastAt, stateIn, sameBytes};
+ghost use Rattle.image.specs.Images.{headSize, placeBytes, stateIn, sameBytes};
+ghost use Rattle.image.specs.Bodies.{lastFrom};
 ghost use Rattle.image.specs.Rescue.{within, mendTrain, mendMarks, mendPlace, mendPlaces, keep, keepFirst, mendLast, mended};
 ghost use Rattle.image.specs.Rescue.{mostFields, fieldOffsets, sizeOf, part, changed, listing, left, rescue, rescued};
 ghost use Rattle.wire.specs.Refusals.{accepted};
@@ -158,7 +159,7 @@ fn ends_with(body: &[u8], flag: u8, high: u8, middle: u8, low: u8) -> bool
 // The last known RBC, none where its bytes are not 1 and the number of an RBC.
 fn mend_last(body: &[u8]) -> Last
     requires { ⌜ length (now body) ≡ 41 ⌝ }
-    ensures { λ r. ⌜ r ≡ mendLast (drop lastAt (now (body .entry))) ⌝ }
+    ensures { λ r. ⌜ r ≡ mendLast (drop lastFrom (now (body .entry))) ⌝ }
 {
     let last = last_in(body);
     match last {

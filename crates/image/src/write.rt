@@ -6,7 +6,8 @@ ghost use mathlib.Core.List.{[], _∷_, _++_};
 ghost use lib.ListN.{length, drop};
 ghost use lib.Seq.{sets};
 ghost use Rattle.unit.specs.States.{sound};
-ghost use Rattle.image.specs.Images.{placeBytes, markByte, headBytes, bodyBytes, tailBytes, imageA2};
+ghost use Rattle.image.specs.Images.{placeBytes, headBytes, bodyBytes, tailBytes, imageA2};
+ghost use Rattle.wire.specs.Bytes.{asBit};
 ghost use Rattle.image.specs.Images.{fitsA1, writeRefused, writeA2, imagedA2, writeA1, imagedA1};
 use crate::layout::KIND_A1;
 use crate::layout::KIND_A2;
@@ -42,7 +43,7 @@ fn narrow(x: u64) -> u8
 }
 
 fn mark_byte(mark: bool) -> u8
-    ensures { λ r. ⌜ r ≡ markByte mark ⌝ }
+    ensures { λ r. ⌜ r ≡ asBit mark ⌝ }
 {
     if mark { 1 } else { 0 }
 }

@@ -15,7 +15,8 @@ use Rattle.wire.proofs.Tests.{and-right, cond-case, true-false}
 use Rattle.record.specs.declared.partner.Partner.{Partner}
 use Rattle.unit.specs.OnRecords.{actionSize, bytesOf}
 use Rattle.unit.specs.declared.answer.Action.{Action}
-use Rattle.judge.specs.Sheets.{answerKind, answerSize}
+use Rattle.judge.specs.Sheets.{answerKind}
+use Rattle.judge.specs.FrontWords.{answerSize}
 use Rattle.judge.specs.Judging.{startsWith, compared, isRight}
 use Rattle.judge.specs.Buffers.{samePartnerAt}
 use Rattle.judge.specs.declared.due.Finding.the-variants.{Right, Wrong, Short, Missing}

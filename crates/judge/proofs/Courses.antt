@@ -8,7 +8,8 @@ use Prim.Native.Nat.{ℕ, zero, suc, _+_, _≤_}
 use native.Mathlib.Omega.{arith}
 use lib.ListN.{length, take, drop, length-drop}
 use lib.Seq.{drop-drop, length-take-le}
-use Rattle.record.specs.Takes.{longestLog, takeOne, taken, onTaken, TakenOk}
+use Rattle.record.specs.Takes.{longestLog, takeOne, taken, onTaken}
+use Rattle.record.specs.TakeWords.{TakenOk}
 use Rattle.record.specs.declared.event.Reading.{Reading}
 use Rattle.record.specs.declared.take.Taken.{Taken}
 use Rattle.record.specs.declared.take.Taken.the-variants.{Whole, Stopped, Refused}

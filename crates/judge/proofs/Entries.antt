@@ -15,7 +15,8 @@ use Rattle.unit.specs.declared.answer.Action.{Action}
 use Rattle.unit.specs.declared.answer.Stepped.{Stepped}
 use Rattle.unit.specs.declared.state.State.{State}
 use Rattle.unit.proofs.Few.{onRecord-few}
-use Rattle.judge.specs.Sheets.{answerKind, answerSize, dueBytes, entryOf}
+use Rattle.judge.specs.Sheets.{answerKind, dueBytes, entryOf}
+use Rattle.judge.specs.FrontWords.{answerSize}
 use Rattle.judge.specs.declared.due.Due.the-variants.{TheAnswer, TheAction}
 
 actions-length : (acts : List Action) → length (actionBytes acts) ≡ actionSize * length acts

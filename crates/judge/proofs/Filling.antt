@@ -15,7 +15,8 @@ use Rattle.unit.specs.OnRecords.{actionRoom, actionSize, onRecord, written}
 use Rattle.unit.specs.Forms.{stepped}
 use Rattle.unit.specs.declared.state.State.{State}
 use Rattle.unit.specs.declared.answer.Stepped.{Stepped}
-use Rattle.judge.specs.Sheets.{answerKind, answerSize}
+use Rattle.judge.specs.Sheets.{answerKind}
+use Rattle.judge.specs.FrontWords.{answerSize}
 use Rattle.judge.specs.Producing.{courseSheet}
 use Rattle.judge.proofs.Courses.{ahead, stop-ahead, whole-part, step-ahead}
 use Rattle.judge.proofs.Entries.{entry-sent}

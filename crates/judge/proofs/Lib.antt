@@ -18,4 +18,4 @@ pub mod Numbers
 pub mod Standing
 pub mod CourseRows
 pub mod OneAnswer
-pub mod Agreed
+pub mod Again

@@ -15,7 +15,8 @@ use Rattle.unit.specs.OnRecords.{actionRoom, actionSize, onRecord}
 use Rattle.unit.specs.Forms.{mostActions, stepped}
 use Rattle.unit.specs.declared.state.State.{State}
 use Rattle.unit.specs.declared.answer.Stepped.{Stepped}
-use Rattle.judge.specs.Sheets.{answerSize, entryOf}
+use Rattle.judge.specs.Sheets.{entryOf}
+use Rattle.judge.specs.FrontWords.{answerSize}
 use Rattle.judge.specs.Producing.{courseSheet, courseRecords, courseStop}
 use Rattle.judge.specs.Buffers.{measured}
 use Rattle.judge.proofs.Courses.{ahead, stop-ahead, whole-part, step-ahead}

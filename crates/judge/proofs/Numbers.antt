@@ -12,14 +12,16 @@ use borrow.Author.Tests.{eqb-true, ltb-true}
 use Rattle.wire.specs.Bytes.{byte}
 use Rattle.wire.specs.Refusals as refusal
 use Rattle.wire.proofs.Tests.{true-false, cond-case, cond-holds, All}
-use Rattle.record.specs.Records.{known, lengthOf, bodyOf, fields, reading}
+use Rattle.record.specs.Records.{known, lengthOf, reading}
+use Rattle.record.specs.Records.{rowOf}
+use Rattle.record.specs.Rows.{fields}
 use Rattle.record.specs.declared.partner.Partner.{Partner}
 use Rattle.record.specs.declared.event.Event.{Event}
 use Rattle.record.specs.declared.event.PartnerEvent.{PartnerEvent}
 use Rattle.record.specs.declared.event.Reading.the-variants.{Meant, Refused}
 use Rattle.record.proofs.ByKind.{read-fields}
 use Rattle.place.specs.Places.{vacant, tries}
-use Rattle.place.specs.Table.{table, closing, again, play, turn, numbers, closes, oneMore, judged}
+use Rattle.place.specs.Table.{table, closing, again, turn, numbers, closes, oneMore, judged}
 use Rattle.place.specs.Table.{request, release, incompatible, initiate, terminate, established}
 use Rattle.place.proofs.ByRow.{by-row, judged-case}
 use Rattle.place.proofs.Holdings.{holdingTurn, holdingClosedBy}
@@ -36,7 +38,7 @@ use Rattle.unit.specs.States.{limitsOk, sound, noLimits, cold, coldStart}
 use Rattle.unit.specs.Standings.{Concern}
 use Rattle.unit.specs.Steps.{Outcome, act, actionsIn, closingActions}
 use Rattle.unit.specs.OnRecords.{actionSize, actionRoom, onReading, onRecord}
-use Rattle.unit.specs.Runs.{runCode}
+use Rattle.unit.specs.RunWords.{runCode}
 use Rattle.unit.specs.declared.state.State.{State}
 use Rattle.unit.specs.declared.start.Started.{Started}
 use Rattle.unit.specs.declared.answer.Action.{Action}
@@ -46,8 +48,8 @@ use Rattle.unit.proofs.Starts.{cold-sound}
 use Rattle.unit.proofs.Runs.Codes.{step-code}
 use Rattle.judge.specs.declared.due.Due.{Due}
 use Rattle.judge.specs.declared.due.Due.the-variants.{TheAction}
-use Rattle.judge.specs.Sheets.{answerKind, answerSize, dueBytes, dues, isRecord}
-use Rattle.judge.specs.Fronts.{sendable, lengthBy}
+use Rattle.judge.specs.Sheets.{answerKind, dueBytes, dues, isRecord}
+use Rattle.judge.specs.FrontWords.{answerSize, sendable, lengthBy}
 use Rattle.judge.proofs.Fronts.{record-known, record-long}
 
 -- numbers, and actions, that are all among the six
@@ -75,7 +77,7 @@ judged-sent l v = judged-case (λ t. Sent (numbers t)) l v (refl, tt) (refl, (re
 turn-sent : (l : Limits) (ph : Phase) (e : PartnerEvent) → Sent (numbers (turn l ph e))
 turn-sent l = by-row (λ ph t. Sent (numbers t)) l row (λ ph. tt)
   where
-    row : (ph : Phase) (v : ℕ) → All (λ c. Sent (numbers (play l ph v c))) (table ph)
+    row : (ph : Phase) (v : ℕ) → All (λ t. Sent (numbers t)) (table l v ph)
     row (Connecting t) v = ((refl, tt), ((refl, tt), (tt, (again-sent l 21 (Connecting t) refl, (tt, (tt, tt))))))
     row (Contacting t) v = ((refl, tt), (tt, ((refl, tt), (again-sent l 155 (Contacting t) refl, (judged-sent l v, (tt, tt))))))
     row Open v = ((refl, tt), (tt, ((refl, tt), (tt, (tt, (tt, tt))))))
@@ -186,12 +188,12 @@ pub onRecord-coded : (s : State) (bytes : List ℕ)
 onRecord-coded s [] good is = true-false false is refl
 onRecord-coded s (kind ∷ rest) good is =
     let bytes = kind ∷ rest in
-    let read : reading bytes ≡ fields (bodyOf kind) bytes =
+    let read : reading bytes ≡ fields (rowOf kind) bytes =
     sym
     (read-fields bytes (λ none. omega arith) (lengthOf kind) refl (ltb-true 0 (lengthOf kind) (record-known kind rest is))
     (record-long kind rest is)) in
-    ap (λ o. runCode (o .code)) (on-reading s bytes actionRoom (lit≤ tt) (fields (bodyOf kind) bytes) good read)
-    ∙ cond-holds (λ r. runCode (onReading s r .code) ≡ true) (bodyOf kind .ranges bytes) (Meant (bodyOf kind .means bytes))
+    ap (λ o. runCode (o .code)) (on-reading s bytes actionRoom (lit≤ tt) (fields (rowOf kind) bytes) good read)
+    ∙ cond-holds (λ r. runCode (onReading s r .code) ≡ true) (rowOf kind .ranges bytes) (Meant (rowOf kind .means bytes))
     (Refused refusal.outOfRange)
-    (step-code s (bodyOf kind .means bytes))
+    (step-code s (rowOf kind .means bytes))
     refl

@@ -19,12 +19,13 @@ use Rattle.judge.specs.declared.due.Due.the-variants.{AnEvent, TheAnswer
 use Rattle.judge.specs.declared.due.Finding.the-variants.{Wrong}
 use Rattle.judge.specs.Sheets.{dueBytes, sheetOf, areRecords, rowEnd}
 use Rattle.judge.specs.Judging.{compared, against, isRight}
-use Rattle.judge.specs.Fronts.{DueAfter, lengthBy, standingLength}
+use Rattle.judge.specs.Fronts.{DueAfter}
+use Rattle.judge.specs.FrontWords.{lengthBy, standingLength}
 use Rattle.judge.proofs.Splits.{same-front, some-bytes, startsWith-split, right-starts}
 use Rattle.judge.proofs.Fronts.{isDue, due-compared, due-is, among}
 use Rattle.judge.proofs.Ways.{Onward, due-way, onward}
 use Rattle.judge.proofs.Numbers.{Measured, lengthBy-some, dues-measured}
-use Rattle.judge.proofs.Agreed.Meanings.{wrong-means, event-wrong}
+use Rattle.judge.proofs.Again.Meanings.{wrong-means, event-wrong}
 
 -- a wrong record is some bytes
 pub wrong-some : (d : Due) (x : List ℕ) → against d x ≡ Wrong → 1 ≤ length x

@@ -13,7 +13,8 @@ use lib.ListN.{length, take, drop, length-append, length-drop}
 use Rattle.wire.proofs.Blocks.{blocks-length}
 use Rattle.wire.proofs.Tests.{cond-case}
 use Rattle.record.specs.Records.{known, lengthOf}
-use Rattle.record.specs.Takes.{takeOne, onTaken, TakenOk}
+use Rattle.record.specs.Takes.{takeOne, onTaken}
+use Rattle.record.specs.TakeWords.{TakenOk}
 use Rattle.record.specs.declared.event.Reading.{Reading}
 use Rattle.record.specs.declared.take.Taken.{Taken}
 use Rattle.record.specs.declared.take.Taken.the-variants.{Whole}

@@ -18,7 +18,8 @@ use Rattle.judge.specs.declared.due.Due.the-variants.{AnEvent}
 use Rattle.judge.specs.declared.due.Finding.the-variants.{Right}
 use Rattle.judge.specs.Sheets.{dueBytes, dues, sheetOf, isRecord, areRecords, rowEnd}
 use Rattle.judge.specs.Judging.{isRight, stoppedAs, against}
-use Rattle.judge.specs.Fronts.{DueAfter, entriesBefore}
+use Rattle.judge.specs.Fronts.{DueAfter}
+use Rattle.judge.specs.FrontWords.{entriesBefore}
 use Rattle.judge.proofs.Splits.{some-bytes}
 use Rattle.judge.proofs.Fronts.{record-some, record-split, record-taken}
 use Rattle.judge.proofs.Fronts.{isDue, due-some, due-right, blocks-append, dues-due, due-among}

@@ -33,7 +33,8 @@ startsWith (b ∷ due) [] = false
 startsWith (b ∷ due) (c ∷ rest) = eqb b c && startsWith due rest
 
 -- what stands at the front of the rest of a sheet where these bytes are due: they themselves; "short", where the kind is theirs and fewer
--- bytes are left; else "wrong"; and "missing" where nothing is left
+-- bytes are left; else "wrong"; and "missing" where nothing is left: "a missing one counts at the
+-- end of the sheet"
 abbrev pub compared : List ℕ → List ℕ → Finding
 compared due [] = Missing
 compared due (kind ∷ rest) =

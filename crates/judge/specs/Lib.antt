@@ -6,3 +6,4 @@ pub mod Fronts
 pub mod Buffers
 pub mod Readers
 pub mod SheetExamples
+pub mod FrontWords

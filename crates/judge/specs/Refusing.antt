@@ -1,3 +1,4 @@
+-- Cross-checks only: nobody has to believe what stands here.
 -- Request Q-9, what a refusal leaves: each field of the answer, and the lent room.
 -- Defines: JudgeRefuses, ProduceRefuses.
 use Prim.Native.Nat.{ℕ}

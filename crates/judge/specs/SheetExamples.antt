@@ -1,3 +1,4 @@
+-- Examples only: nobody has to believe what stands here.
 -- Request Q-9, sheets with what the judge answers them: that of document 01's five records (its P1), the same with one fault, and others.
 -- Defines: shownLimits, shownRow, shownLog, shownSheet, wrongSheet, rbcAction, JudgedSheet, judgedAs, twoClosed, twoTurned, judgedSheets.
 use Prim.Native.Nat.{ℕ}
@@ -5,6 +6,7 @@ use mathlib.Core.List.{List, [], _∷_, _++_}
 use lib.ListN.{take, drop}
 use Rattle.record.specs.Partners.{rbc}
 use Rattle.place.specs.declared.limits.Limits.{Limits}
+use Rattle.unit.specs.States.{oneToTwo}
 use Rattle.unit.specs.declared.answer.Action.{Action}
 use Rattle.judge.specs.declared.due.Due.{Due}
 use Rattle.judge.specs.declared.due.Due.the-variants.{AnEvent, TheAnswer, TheAction}
@@ -15,7 +17,7 @@ use Rattle.judge.specs.Judging.{pointAt, verdictAt}
 
 -- X 1 to 2, three tries
 abbrev pub shownLimits : Limits
-shownLimits = record { lowest = 1; highest = 2; tries = 3 }
+shownLimits = oneToTwo 3
 
 -- order, connection up, message 32, drop, message 39
 abbrev pub shownRow : List (List ℕ)

@@ -1,5 +1,5 @@
 -- Request Q-9: what a sheet is: event records, each with its answer and its actions behind it.
--- Defines: answerKind, answerSize, dueBytes, dues, entryOf, sheetOf, isRecord, areRecords, rowEnd.
+-- Defines: answerKind, dueBytes, dues, entryOf, sheetOf, isRecord, areRecords, rowEnd.
 use Prim.Native.Nat.{ℕ}
 use mathlib.Core.Bool.{Bool, true, false, _&&_}
 use mathlib.Core.List.{List, [], _∷_, _++_, map}
@@ -16,9 +16,6 @@ use Rattle.judge.specs.declared.due.Due.the-variants.{AnEvent, TheAnswer
 -- "kind 30 with one byte"
 abbrev pub answerKind : ℕ
 answerKind = 30
-
-abbrev pub answerSize : ℕ
-answerSize = 2
 
 -- the bytes of a record that is due: "kind 30 with one byte", "actions as five-byte records"; of an event record nothing is known
 abbrev pub dueBytes : Due → List ℕ

@@ -16,4 +16,4 @@ pub mod LookTests
 pub mod ExtendTests
 pub mod Growing
 pub mod OneAnswer
-pub mod Agreed
+pub mod Again

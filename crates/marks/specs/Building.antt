@@ -34,7 +34,7 @@ extendCode l log held room =
     logTooLong)
     badLimits
 
--- how many marks there are; none told where it is refused
+-- "Marks extended after an append": how many there are; none told where it is refused
 unfoldable pub extended : Limits → List ℕ → ℕ → List ℕ → Marked
 extended l log held room =
     cond (eqb (extendCode l log held room) accepted)

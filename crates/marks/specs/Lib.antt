@@ -3,3 +3,4 @@ pub mod Building
 pub mod Lookup
 pub mod LogMarks
 pub mod MarkExamples
+pub mod MarkWords

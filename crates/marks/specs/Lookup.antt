@@ -41,7 +41,7 @@ lookCode l log marks n =
     logTooLong)
     badLimits
 
--- the state after record n, how many records were stepped, and the offset reached in the log
+-- "The state after record n, found from the nearest mark at or before n ..; it reports how many it stepped", and the offset reached
 unfoldable pub lookedUp : Limits → List ℕ → List ℕ → ℕ → Looked
 lookedUp l log marks n =
     cond (eqb (lookCode l log marks n) accepted)

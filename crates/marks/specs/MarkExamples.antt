@@ -1,13 +1,15 @@
--- Only laws use what stands here: a log of 258 records with its one mark, and what is appended to it, for computed instances.
+-- Examples only: nobody has to believe what stands here.
+-- A log of 258 records with its one mark, and what is appended to it, for computed instances.
 -- Defines: markedLimits, modeLog, markedLog, shownMark, cutLog, laterPart.
 use Prim.Native.Nat.{ℕ}
 use mathlib.Core.List.{List, [], _∷_, _++_}
 use lib.ListN.{replicate}
 use Rattle.place.specs.declared.limits.Limits.{Limits}
+use Rattle.unit.specs.States.{oneToTwo}
 
 -- X 1 to 2, three tries
 abbrev pub markedLimits : Limits
-markedLimits = record { lowest = 1; highest = 2; tries = 3 }
+markedLimits = oneToTwo 3
 
 -- so many mode changes, a byte each
 abbrev pub modeLog : ℕ → List ℕ

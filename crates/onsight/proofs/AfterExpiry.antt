@@ -7,16 +7,18 @@ use mathlib.Core.List.{List, [], _∷_, _++_}
 use Prim.Native.Nat.{ℕ}
 use native.Mathlib.Omega.{arith}
 use lib.ListN.{length, replicate}
+use Rattle.onsight.specs.Cases.{byState}
 use Rattle.onsight.specs.Numbers.{accepted, notTakenHere}
 use Rattle.onsight.specs.Procedures.{cell, fresh, taken, step, serviceBrake}
-use Rattle.onsight.specs.Histories.{met, endOf, after, codes, isAcknowledgement, unacknowledged}
+use Rattle.onsight.specs.Histories.{met, endOf, after}
+use Rattle.onsight.specs.HistoryWords.{codes, isAcknowledgement, unacknowledged}
 use Rattle.onsight.specs.declared.event.Event.{Event}
 use Rattle.onsight.specs.declared.event.Event.the-variants.{Acknowledgement, Expiry}
 use Rattle.onsight.specs.declared.procedure.State.{State}
-use Rattle.onsight.specs.declared.procedure.State.the-variants.{Idle, Waiting, Asked, Late, Braking, Done}
+use Rattle.onsight.specs.declared.procedure.State.the-variants.{Late, Braking, Done}
 use Rattle.onsight.specs.declared.procedure.Cell.the-variants.{No}
-use Rattle.onsight.proofs.Agreed.Rows.{late-answers}
-use Rattle.onsight.proofs.Agreed.Tests.{isAcknowledgement-means}
+use Rattle.onsight.proofs.Again.Rows.{late-answers}
+use Rattle.onsight.proofs.Again.Tests.{isAcknowledgement-means}
 use Rattle.onsight.proofs.WholeTable.{line-rule, taken-rule, by-cell}
 use Rattle.onsight.proofs.Histories.{after-append, codes-append, NoneTaken, none-taken, kept}
 
@@ -32,12 +34,7 @@ braking-shut e other =
 
 -- the states that follow an expiry
 abbrev past : State → Bool
-past Idle = false
-past Waiting = false
-past Asked = false
-past Late = false
-past Braking = true
-past Done = true
+past = byState false false false false true true
 
 past-takes : (s : State) → past s ≡ true → (e : Event) → step s e .code ≡ accepted → e ≡ Acknowledgement
 past-takes s gone e =

@@ -6,7 +6,8 @@ use mathlib.Core.List.{List, [], _∷_}
 use lib.Dec.{eqb}
 use Rattle.onsight.specs.Numbers.{accepted}
 use Rattle.onsight.specs.Procedures.{cell, fresh, serviceBrake}
-use Rattle.onsight.specs.Histories.{met, endOf, after, acceptedOf, acceptedIn, lastIs, isLate, isExpiry, expiryInLate}
+use Rattle.onsight.specs.Histories.{met, endOf, after}
+use Rattle.onsight.specs.HistoryWords.{acceptedOf, acceptedIn, lastIs, isLate, isExpiry, expiryInLate}
 use Rattle.onsight.specs.declared.event.Event.{Event}
 use Rattle.onsight.specs.declared.procedure.State.{State}
 use Rattle.onsight.specs.declared.procedure.Cell.the-variants.{To}

@@ -1,16 +1,16 @@
 -- Where each event is taken, and what holds after the start.
 -- Proves: profile-idle, start-in-force, acknowledgement-asked, expiry-late.
-use mathlib.Core.Path.{_≡_, refl}
-use mathlib.Core.Bool.{true, false, true≢false}
+use mathlib.Core.Path.{_≡_, refl, sym}
+use mathlib.Core.Bool.{true, false}
 use native.Mathlib.Omega.{arith}
 use lib.Dec.{eqb}
 use Rattle.onsight.specs.Numbers.{accepted}
 use Rattle.onsight.specs.Procedures.{cell, step, osInForce}
-use Rattle.onsight.specs.Histories.{isIdle, isLate, isProfile, asksForAcknowledgement}
+use Rattle.onsight.specs.HistoryWords.{isIdle, isLate, isProfile, asksForAcknowledgement}
 use Rattle.onsight.specs.declared.event.Event.{Event}
 use Rattle.onsight.specs.declared.event.Event.the-variants.{Start, Acknowledgement, Expiry}
 use Rattle.onsight.specs.declared.procedure.State.{State}
-use Rattle.onsight.specs.declared.procedure.State.the-variants.{Idle, Waiting, Asked, Late, Braking, Done}
+use Rattle.onsight.proofs.Again.Each.{never, by-state}
 use Rattle.onsight.proofs.WholeTable.{taken-rule, by-cell}
 
 -- "Idle takes only this": what is taken is a profile in Idle, and nowhere else
@@ -28,29 +28,17 @@ profile-idle s e =
 pub start-in-force : (s : State)
     → isIdle s ≡ false
     → osInForce (step s Start .state) ≡ true
-start-in-force Idle h = absurd (true≢false h)
-start-in-force Waiting h = refl
-start-in-force Asked h = refl
-start-in-force Late h = refl
-start-in-force Braking h = refl
-start-in-force Done h = refl
+start-in-force =
+    by-state (λ s. isIdle s ≡ false → osInForce (step s Start .state) ≡ true)
+    (λ h. never (sym h)) (λ h. refl) (λ h. refl) (λ h. refl) (λ h. refl) (λ h. refl)
 
 -- "Asked, Late and Braking: driver acknowledgement": accepted there and nowhere else
 -- promise
 pub acknowledgement-asked : (s : State) → eqb (step s Acknowledgement .code) accepted ≡ asksForAcknowledgement s
-acknowledgement-asked Idle = refl
-acknowledgement-asked Waiting = refl
-acknowledgement-asked Asked = refl
-acknowledgement-asked Late = refl
-acknowledgement-asked Braking = refl
-acknowledgement-asked Done = refl
+acknowledgement-asked =
+    by-state (λ s. eqb (step s Acknowledgement .code) accepted ≡ asksForAcknowledgement s) refl refl refl refl refl refl
 
 -- "Late: timer expiry": accepted there and nowhere else
 -- promise
 pub expiry-late : (s : State) → eqb (step s Expiry .code) accepted ≡ isLate s
-expiry-late Idle = refl
-expiry-late Waiting = refl
-expiry-late Asked = refl
-expiry-late Late = refl
-expiry-late Braking = refl
-expiry-late Done = refl
+expiry-late = by-state (λ s. eqb (step s Expiry .code) accepted ≡ isLate s) refl refl refl refl refl refl

@@ -9,12 +9,13 @@ use native.Mathlib.Omega.{arith}
 use lib.ListN.{length, replicate}
 use Rattle.onsight.specs.Numbers.{notTakenHere}
 use Rattle.onsight.specs.Procedures.{cell, answered, step}
-use Rattle.onsight.specs.Histories.{met, endOf, after, codes, every}
+use Rattle.onsight.specs.Histories.{met, endOf, after}
+use Rattle.onsight.specs.HistoryWords.{codes, every}
 use Rattle.onsight.specs.declared.event.Event.{Event}
 use Rattle.onsight.specs.declared.procedure.State.{State}
 use Rattle.onsight.specs.declared.procedure.Cell.{Cell}
 use Rattle.onsight.specs.declared.procedure.Cell.the-variants.{No, To}
-use Rattle.onsight.proofs.Agreed.Meanings.{met-append, and-left, and-right}
+use Rattle.onsight.proofs.Again.Meanings.{met-append, and-left, and-right}
 use Rattle.onsight.proofs.WholeTable.{drawn, onTaken, taken-rule, by-cell}
 
 pub after-append : (s : State) (es fs : List Event) → after s (es ++ fs) ≡ after (after s es) fs

@@ -7,12 +7,13 @@ use lib.Dec.{eqb}
 use lib.ListN.{length, replicate}
 use Rattle.onsight.specs.Numbers.{accepted, notTakenHere}
 use Rattle.onsight.specs.Procedures.{cell, fresh, osInForce, serviceBrake}
-use Rattle.onsight.specs.Histories.{met, endOf, after, codes, acceptedOf, acceptedIn, anyIs, isDone, bringsOS, ends}
+use Rattle.onsight.specs.Histories.{met, endOf, after}
+use Rattle.onsight.specs.HistoryWords.{codes, acceptedOf, acceptedIn, anyIs, isDone, bringsOS, ends}
 use Rattle.onsight.specs.declared.event.Event.{Event}
 use Rattle.onsight.specs.declared.procedure.State.{State}
 use Rattle.onsight.specs.declared.procedure.State.the-variants.{Done}
 use Rattle.onsight.specs.declared.procedure.Cell.the-variants.{No}
-use Rattle.onsight.proofs.Agreed.Rows.{serviceBrake-states}
+use Rattle.onsight.proofs.Again.Rows.{serviceBrake-states}
 use Rattle.onsight.proofs.WholeTable.{drawn, onTaken, line-rule, taken-rule, by-cell}
 use Rattle.onsight.proofs.Histories.{after-append, codes-append, every-all, NoneTaken, none-taken, kept}
 

@@ -12,8 +12,8 @@ use native.Mathlib.Omega.{arith}
 use lib.ListN.{replicate}
 use Rattle.onsight.specs.Numbers.{eventNumber}
 use Rattle.onsight.specs.Procedures.{fresh, step, osInForce, serviceBrake}
-use Rattle.onsight.specs.Histories.{met, endOf, after, codes, acceptedIn, acceptedOf, anyIs, every}
-use Rattle.onsight.specs.Histories.{Met, isIdle, isProfile, bringsOS}
+use Rattle.onsight.specs.Histories.{Met, met, endOf, after}
+use Rattle.onsight.specs.HistoryWords.{codes, acceptedIn, acceptedOf, anyIs, every, isIdle, isProfile, bringsOS}
 use Rattle.onsight.specs.Instances.{lateAtOnce, lateByAsked, silence}
 use Rattle.onsight.specs.declared.event.Area.{Area}
 use Rattle.onsight.specs.declared.event.Area.the-variants.{Ahead, Entered}
@@ -21,8 +21,8 @@ use Rattle.onsight.specs.declared.event.Mode.{Mode}
 use Rattle.onsight.specs.declared.event.Mode.the-variants.{OS, SB, PT, Another}
 use Rattle.onsight.specs.declared.event.Event.the-variants.{Profile, Window, Start, Acknowledgement, Expiry}
 use Rattle.onsight.specs.declared.procedure.State.the-variants.{Idle, Waiting, Asked, Late, Braking, Done}
-use Rattle.onsight.proofs.Agreed.Tests.{isProfile-means}
-use Rattle.onsight.proofs.Agreed.Meanings.{unacknowledged-means}
+use Rattle.onsight.proofs.Again.Tests.{isProfile-means}
+use Rattle.onsight.proofs.Again.Meanings.{unacknowledged-means}
 use Rattle.onsight.proofs.AfterExpiry.{late-brakes, expired-codes, expired-stays, expired-brakes}
 use Rattle.onsight.proofs.AfterExpiry.{acknowledged-codes, acknowledged-done, acknowledged-released}
 use Rattle.onsight.proofs.AfterExpiry.{expired-never-late, expired-only-acknowledgement}

@@ -10,6 +10,6 @@ pub mod Longest
 pub mod Refusals
 pub mod Known
 pub mod OneAnswer
-pub mod Agreed
+pub mod Again
 pub mod Instances
 pub mod Plainly

@@ -10,7 +10,8 @@ use lib.ListN.{length}
 use borrow.Author.Tests.{ltb-true}
 use Rattle.onsight.specs.Numbers.{accepted}
 use Rattle.onsight.specs.Procedures.{cell, fresh}
-use Rattle.onsight.specs.Histories.{met, endOf, after, acceptedOf, acceptedIn, mostAccepted, longest, wayTo, wayToDone}
+use Rattle.onsight.specs.Histories.{met, endOf, after}
+use Rattle.onsight.specs.HistoryWords.{acceptedOf, acceptedIn, mostAccepted, longest, wayTo, wayToDone}
 use Rattle.onsight.specs.declared.event.Event.{Event}
 use Rattle.onsight.specs.declared.procedure.State.{State}
 use Rattle.onsight.specs.declared.procedure.State.the-variants.{Idle, Waiting, Asked, Late, Braking, Done}

@@ -1,3 +1,4 @@
+-- Cross-checks only: rules told a second time.
 -- The cases of each enum are counted from 0, in the order in which Q-1 names them.
 -- Proves: states-numbered, areas-numbered, modes-numbered, events-numbered.
 use mathlib.Core.Path.{_≡_, refl}

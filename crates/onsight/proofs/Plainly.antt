@@ -1,3 +1,4 @@
+-- Cross-checks only: rules told a second time.
 -- What is promised of histories, said of their events one by one, with no test of this crate in between.
 -- Proves: profile-taken, acknowledgement-taken, expiry-taken, brake-exactly, in-force-exactly, done-exactly, expired-plainly.
 use mathlib.Core.Path.{_≡_, refl, sym, ap, _∙_}
@@ -10,8 +11,8 @@ use lib.Dec.{eqb}
 use lib.ListN.{length, getD, take, replicate}
 use borrow.Author.Tests.{eqb-true, eq-eqb}
 use Rattle.onsight.specs.Procedures.{fresh, step, osInForce, serviceBrake}
-use Rattle.onsight.specs.Histories.{Met, met, after, codes, acceptedOf, acceptedIn, lastIs, anyIs, isDone, expiryInLate}
-use Rattle.onsight.specs.Histories.{bringsOS, ends}
+use Rattle.onsight.specs.Histories.{Met, met, after}
+use Rattle.onsight.specs.HistoryWords.{codes, acceptedOf, acceptedIn, lastIs, anyIs, isDone, expiryInLate, bringsOS, ends}
 use Rattle.onsight.specs.declared.event.Area.{Area}
 use Rattle.onsight.specs.declared.event.Area.the-variants.{Entered}
 use Rattle.onsight.specs.declared.event.Mode.{Mode}
@@ -20,9 +21,9 @@ use Rattle.onsight.specs.declared.event.Event.{Event}
 use Rattle.onsight.specs.declared.event.Event.the-variants.{Profile, Window, Start, Acknowledgement, Expiry}
 use Rattle.onsight.specs.declared.procedure.State.{State}
 use Rattle.onsight.specs.declared.procedure.State.the-variants.{Idle, Asked, Late, Braking, Done}
-use Rattle.onsight.proofs.Agreed.Tests.{isIdle-means, isLate-means, isDone-means, asksForAcknowledgement-means, isProfile-means}
-use Rattle.onsight.proofs.Agreed.Tests.{expiryInLate-means, ends-means, bringsOS-means}
-use Rattle.onsight.proofs.Agreed.Meanings.{met-each, met-length, lastIs-means, anyIs-means, unacknowledged-means}
+use Rattle.onsight.proofs.Again.Tests.{isIdle-means, isLate-means, isDone-means, asksForAcknowledgement-means, isProfile-means}
+use Rattle.onsight.proofs.Again.Tests.{expiryInLate-means, ends-means, bringsOS-means}
+use Rattle.onsight.proofs.Again.Meanings.{met-each, met-length, lastIs-means, anyIs-means, unacknowledged-means}
 use Rattle.onsight.proofs.AfterExpiry.{expired-stays, acknowledged-codes, acknowledged-done}
 use Rattle.onsight.proofs.Brake.{brake-last}
 use Rattle.onsight.proofs.ByEvent.{profile-idle, acknowledgement-asked, expiry-late}

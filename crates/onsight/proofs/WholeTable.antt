@@ -16,6 +16,7 @@ use Rattle.onsight.specs.declared.procedure.State.the-variants.{Idle, Wa
 use Rattle.onsight.specs.declared.procedure.Cell.{Cell}
 use Rattle.onsight.specs.declared.procedure.Cell.the-variants.{No, To}
 use Rattle.onsight.specs.declared.procedure.Answer.{Answer}
+use Rattle.onsight.proofs.Again.Each.{by-state}
 
 -- what a function says of each event, and of each state with each event
 abbrev pub line : {A : Type 0} → (Event → A) → List A
@@ -71,12 +72,7 @@ pub line-rule : {A : Type 0} (f g : Event → A) → line f ≡ line g → (e : 
 line-rule f g same e = sym (line-at f (f e) e) ∙ ap (λ l. getD l (spot e) (f e)) same ∙ line-at g (f e) e
 
 drawn-at : {A : Type 0} (f : State → Event → A) (s : State) → getD (drawn f) (stateNumber s) [] ≡ line (f s)
-drawn-at f Idle = refl
-drawn-at f Waiting = refl
-drawn-at f Asked = refl
-drawn-at f Late = refl
-drawn-at f Braking = refl
-drawn-at f Done = refl
+drawn-at f = by-state (λ s. getD (drawn f) (stateNumber s) [] ≡ line (f s)) refl refl refl refl refl refl
 
 -- two functions of the states and events that are drawn alike say the same
 pub rule : {A : Type 0} (f g : State → Event → A) → drawn f ≡ drawn g → (s : State) (e : Event) → f s e ≡ g s e

@@ -1,4 +1,5 @@
--- Only laws speak of what stands here: the histories at which the instances of the promises are computed.
+-- Examples only: nobody has to believe what stands here.
+-- The histories at which the instances of the promises are computed.
 -- Defines: lateAtOnce, lateByAsked, silence.
 use mathlib.Core.List.{List, [], _∷_}
 use Rattle.onsight.specs.declared.event.Area.the-variants.{Ahead, Entered}

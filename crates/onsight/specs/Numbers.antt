@@ -1,14 +1,13 @@
 -- The numbers of request Q-1: its refusal, and the cases of each enum, counted from 0 in the order in which Q-1 names them.
 -- Defines: accepted, notTakenHere, stateNumber, areaNumber, modeNumber, eventNumber.
 use Prim.Native.Nat.{ℕ}
+use Rattle.onsight.specs.Cases.{byState, byEvent}
 use Rattle.onsight.specs.declared.event.Area.{Area}
 use Rattle.onsight.specs.declared.event.Area.the-variants.{Ahead, Entered}
 use Rattle.onsight.specs.declared.event.Mode.{Mode}
 use Rattle.onsight.specs.declared.event.Mode.the-variants.{OS, SB, PT, Another}
 use Rattle.onsight.specs.declared.event.Event.{Event}
-use Rattle.onsight.specs.declared.event.Event.the-variants.{Profile, Window, Start, Acknowledgement, Expiry}
 use Rattle.onsight.specs.declared.procedure.State.{State}
-use Rattle.onsight.specs.declared.procedure.State.the-variants.{Idle, Waiting, Asked, Late, Braking, Done}
 
 -- what an answer carries where nothing was refused
 abbrev pub accepted : ℕ
@@ -20,12 +19,7 @@ notTakenHere = 14
 
 -- "Its own state is Idle, Waiting, Asked, Late, Braking or Done."
 abbrev pub stateNumber : State → ℕ
-stateNumber Idle = 0
-stateNumber Waiting = 1
-stateNumber Asked = 2
-stateNumber Late = 3
-stateNumber Braking = 4
-stateNumber Done = 5
+stateNumber = byState 0 1 2 3 4 5
 
 -- "A profile event says whether the area is ahead or already entered,
 abbrev pub areaNumber : Area → ℕ
@@ -41,8 +35,4 @@ modeNumber Another = 3
 
 -- the events, each at its first sentence
 abbrev pub eventNumber : Event → ℕ
-eventNumber (Profile area mode) = 0
-eventNumber Window = 1
-eventNumber Start = 2
-eventNumber Acknowledgement = 3
-eventNumber Expiry = 4
+eventNumber = byEvent (λ area mode. 0) 1 2 3 4

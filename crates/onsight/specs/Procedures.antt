@@ -1,11 +1,9 @@
 -- Document 02, request Q-1: the On-Sight procedure drawn as a table, a row for each state and a column for each event; one step.
 -- Defines: Row, row, column, cell, fresh, taken, refused, answered, step, osInForce, serviceBrake.
 use mathlib.Core.Bool.{Bool, true, false}
+use Rattle.onsight.specs.Cases.{byState, byProfile, byEvent}
 use Rattle.onsight.specs.Numbers.{accepted, notTakenHere}
-use Rattle.onsight.specs.declared.event.Area.the-variants.{Ahead, Entered}
-use Rattle.onsight.specs.declared.event.Mode.the-variants.{OS, SB, PT, Another}
 use Rattle.onsight.specs.declared.event.Event.{Event}
-use Rattle.onsight.specs.declared.event.Event.the-variants.{Profile, Window, Start, Acknowledgement, Expiry}
 use Rattle.onsight.specs.declared.procedure.State.{State}
 use Rattle.onsight.specs.declared.procedure.State.the-variants.{Idle, Waiting, Asked, Late, Braking, Done}
 use Rattle.onsight.specs.declared.procedure.Cell.{Cell}
@@ -47,15 +45,7 @@ row Done = record { ahead = No; OS = No; SB-PT = No; other = No; window = No; st
 
 -- the column that an event stands in
 abbrev pub column : Event → Row → Cell
-column (Profile Ahead mode) r = r .ahead
-column (Profile Entered OS) r = r .OS
-column (Profile Entered SB) r = r .SB-PT
-column (Profile Entered PT) r = r .SB-PT
-column (Profile Entered Another) r = r .other
-column Window r = r .window
-column Start r = r .start
-column Acknowledgement r = r .driver
-column Expiry r = r .timer
+column e r = byEvent (byProfile (r .ahead) (r .OS) (r .SB-PT) (r .other)) (r .window) (r .start) (r .driver) (r .timer) e
 
 -- the cell at a state and an event
 abbrev pub cell : State → Event → Cell
@@ -84,18 +74,8 @@ step s e = answered s (cell s e)
 
 -- "OS is in force in Late, Braking and Done;
 abbrev pub osInForce : State → Bool
-osInForce Idle = false
-osInForce Waiting = false
-osInForce Asked = false
-osInForce Late = true
-osInForce Braking = true
-osInForce Done = true
+osInForce = byState false false false true true true
 
 -- the service brake is on in Braking only."
 abbrev pub serviceBrake : State → Bool
-serviceBrake Idle = false
-serviceBrake Waiting = false
-serviceBrake Asked = false
-serviceBrake Late = false
-serviceBrake Braking = true
-serviceBrake Done = false
+serviceBrake = byState false false false false true false

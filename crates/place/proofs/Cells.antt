@@ -1,5 +1,5 @@
--- The table's cells as the code takes them: by number, and by what its tests showed; and so what is in its range.
--- Proves: cell-none, played-at, turned-by, judged-by, again-more, again-last, closedBy-known, phaseOk-by, holdingOk-by.
+-- The table's entries as the code takes them: by number, and by what its tests showed; and so what is in its range.
+-- Proves: chosen-none, chosen-at, turned-by, judged-by, again-more, again-last, closedBy-known, phaseOk-by, holdingOk-by.
 use mathlib.Core.Path.{_≡_, refl, sym, ap, ap₂, _∙_}
 use mathlib.Core.Bool.{Bool, true, cond, _&&_}
 use Prim.Native.Nat.{ℕ, zero, suc, _+_, _/_, _≤_, _<_}
@@ -11,10 +11,10 @@ use Rattle.record.specs.Partners.{namedOk}
 use Rattle.record.specs.declared.partner.Partner.{Partner}
 use Rattle.record.specs.declared.event.PartnerEvent.{PartnerEvent}
 use Rattle.place.specs.Places.{tries, triesOk, phaseOk, fits, heldPhase}
-use Rattle.place.specs.Table.{Cell, refuse, cell, judged, withTries, oneMore, again, play, turn, versionOf, established}
+use Rattle.place.specs.Table.{judged, withTries, oneMore, again, turn, versionOf, established}
 use Rattle.place.specs.Table.{incompatible, terminate, firstTry, closing, closes, turnedTo}
 use Rattle.place.proofs.Holdings.{holdingOk, holdingClosedBy}
-use Rattle.place.specs.Cells.{legend, cellOf, isOpen}
+use Rattle.place.specs.Cells.{legend, chosenTurn, Chooses, isOpen}
 use Rattle.place.specs.declared.phase.Phase.{Phase}
 use Rattle.place.specs.declared.phase.Phase.the-variants.{Connecting, Contacting, Open, Lost, Ending}
 use Rattle.place.specs.declared.place.Direction.{Direction}
@@ -27,29 +27,30 @@ use Rattle.place.specs.declared.turn.Turn.the-variants.{Stays, Released,
 use Rattle.place.specs.declared.turn.Turned.{Turned}
 use Rattle.place.specs.declared.turn.Closing.{Closing}
 
--- no cell below 1 or above 9 but the refusal
-pub cell-none : (choice : ℕ) → (1 ≤ choice → length legend ≤ choice) → cellOf choice ≡ refuse
-cell-none zero above = refl
-cell-none (suc choice) above = List·getD-eq-default legend refuse (above (omega arith))
+-- no number but 1 to 9 chooses another turn than "no"
+pub chosen-none : (l : Limits) (v : ℕ) (ph : Phase) (choice : ℕ)
+    → (1 ≤ choice → length (legend l v ph) ≤ choice)
+    → chosenTurn l v ph choice ≡ Stays
+chosen-none l v ph zero above = refl
+chosen-none l v ph (suc choice) above = List·getD-eq-default (legend l v ph) Stays (above (omega arith))
 
--- what the cell of a known number makes of a place in its phase
-pub played-at : (place : Place) (l : Limits) (ph : Phase) (v choice : ℕ) (c : Cell) (t : Turn) (r : Turned)
-    → cellOf choice ≡ c
-    → t ≡ play l ph v c
+-- what a known number makes of a place in its phase
+pub chosen-at : (place : Place) (l : Limits) (ph : Phase) (v choice number : ℕ) (t : Turn) (r : Turned)
+    → choice ≡ number
+    → t ≡ chosenTurn l v ph number
     → r ≡ turnedTo place t
-    → r ≡ turnedTo place (play l ph v (cellOf choice))
-played-at place l ph v choice c t r e is made = made ∙ ap (turnedTo place) (is ∙ ap (play l ph v) (sym e))
+    → r ≡ turnedTo place (chosenTurn l v ph choice)
+chosen-at place l ph v choice number t r e is made = made ∙ ap (turnedTo place) (is ∙ ap (chosenTurn l v ph) (sym e))
 
--- the chosen cell's turn is the event's
-pub turned-by : (l : Limits) (place : Place) (e : PartnerEvent) (ph : Phase) (v : ℕ) (c : Cell) (r : Turned)
+-- the chosen turn is the event's
+pub turned-by : (l : Limits) (place : Place) (e : PartnerEvent) (ph : Phase) (v choice : ℕ) (r : Turned)
     → ph ≡ heldPhase place
     → v ≡ versionOf e
-    → c ≡ cell ph e
-    → r ≡ turnedTo place (play l ph v c)
+    → Chooses ph e choice
+    → r ≡ turnedTo place (chosenTurn l v ph choice)
     → r ≡ turnedTo place (turn l (heldPhase place) e)
-unfolding turn
-turned-by l place e ph v c r phase version same made =
-    made ∙ ap (turnedTo place) (ap₂ (play l ph) version same ∙ ap (λ q. turn l q e) phase)
+turned-by l place e ph v choice r phase version chooses made =
+    made ∙ ap (turnedTo place) (ap (λ w. chosenTurn l w ph choice) version ∙ chooses l ∙ ap (λ q. turn l q e) phase)
 
 pub judged-by : (l : Limits) (v x : ℕ) (b t : Bool)
     → x ≡ v / 16

@@ -4,4 +4,4 @@ pub mod Turns
 pub mod Cells
 pub mod Drawn
 pub mod OneAnswer
-pub mod Agreed
+pub mod Again

@@ -13,7 +13,7 @@ use Rattle.record.specs.declared.event.PartnerEvent.{PartnerEvent}
 use Rattle.wire.proofs.Tests.{and-left, and-right, and-both, true-false, cond-case, cond-holds, All}
 use Rattle.place.specs.Places.{tries, phaseOk, fitsIncoming, fits, placeOk, seat, holds}
 use Rattle.place.proofs.Holdings.{holdingOk, holdsIn, holdingTurn, holdingClosedBy}
-use Rattle.place.specs.Table.{table, closing, judged, oneMore, again, play, turn, numbers, placeAfter, closes, inSession}
+use Rattle.place.specs.Table.{table, closing, judged, oneMore, again, turn, numbers, placeAfter, closes, inSession}
 use Rattle.place.specs.declared.phase.Phase.{Phase}
 use Rattle.place.specs.declared.phase.Phase.the-variants.{Connecting, Contacting, Open, Lost, Ending}
 use Rattle.place.specs.declared.place.Direction.{Direction}
@@ -70,7 +70,7 @@ module _ (l : Limits) (some-try : 1 ≤ l .tries) where
   judged-sound : (ph : Phase) (v : ℕ) → NextSound l ph (judged l v)
   judged-sound ph v = judged-case (NextSound l ph) l v (refl, λ i. refl) (first-ok, λ i. refl)
 
-  row-sound : (ph : Phase) (v : ℕ) → All (λ c. NextSound l ph (play l ph v c)) (table ph)
+  row-sound : (ph : Phase) (v : ℕ) → All (NextSound l ph) (table l v ph)
   row-sound (Connecting t) v =
       (tt, ((first-ok, λ i. true-false false i refl), (tt, (again-sound 21 (Connecting t), (tt, (tt, tt))))))
   row-sound (Contacting t) v =

@@ -1,6 +1,6 @@
 -- Document 01, "What the box remembers", the part on one place.
--- Defines: phaseNumber, tries, directionNumber, mostTries, defaultTries, fleetTries, vacant, seat, onHolding, isFree, partnerOf, heldPhase,
--- holds, triesOk, phaseOk, fitsIncoming, fits, placeOk.
+-- Defines: byPhase, phaseNumber, tries, directionNumber, mostTries, defaultTries, fleetTries, vacant, seat, onHolding, isFree, partnerOf,
+-- heldPhase, holds, triesOk, phaseOk, fitsIncoming, fits, placeOk.
 use Prim.Native.Nat.{ℕ}
 use mathlib.Core.Bool.{Bool, true, false, _&&_}
 use lib.Dec.{leb}
@@ -15,13 +15,17 @@ use Rattle.place.specs.declared.place.Holding.the-variants.{Free, Held}
 use Rattle.place.specs.declared.place.Place.{Place}
 use Rattle.place.specs.declared.limits.Limits.{Limits}
 
+-- an answer for each phase, in 01's order: Connecting, Contacting, Open, Lost, Ending ("an ending session has a phase of its own")
+abbrev pub byPhase : {A : Type 0} → A → A → A → A → A → Phase → A
+byPhase atConnecting atContacting atOpen atLost atEnding (Connecting t) = atConnecting
+byPhase atConnecting atContacting atOpen atLost atEnding (Contacting t) = atContacting
+byPhase atConnecting atContacting atOpen atLost atEnding Open = atOpen
+byPhase atConnecting atContacting atOpen atLost atEnding (Lost t) = atLost
+byPhase atConnecting atContacting atOpen atLost atEnding (Ending t) = atEnding
+
 -- "Phases: 1 Connecting, 2 Contacting, 3 Open, 4 Lost, 5 Ending"
 abbrev pub phaseNumber : Phase → ℕ
-phaseNumber (Connecting t) = 1
-phaseNumber (Contacting t) = 2
-phaseNumber Open = 3
-phaseNumber (Lost t) = 4
-phaseNumber (Ending t) = 5
+phaseNumber = byPhase 1 2 3 4 5
 
 -- "Tries: 1 to 3, but 0 in Open", and of Q-3 1 to n
 abbrev pub tries : Phase → ℕ
@@ -81,21 +85,13 @@ holds p place = onHolding false (λ d ph q. samePartner p q) (place .holding)
 abbrev pub triesOk : Limits → ℕ → Bool
 triesOk l t = leb 1 t && leb t (l .tries)
 
--- the tries used are in their range
+-- the tries used are in their range, "but 0 in Open"
 abbrev pub phaseOk : Limits → Phase → Bool
-phaseOk l (Connecting t) = triesOk l t
-phaseOk l (Contacting t) = triesOk l t
-phaseOk l Open = true
-phaseOk l (Lost t) = triesOk l t
-phaseOk l (Ending t) = triesOk l t
+phaseOk l ph = byPhase (triesOk l (tries ph)) (triesOk l (tries ph)) true (triesOk l (tries ph)) (triesOk l (tries ph)) ph
 
 -- "Connecting and Contacting are outgoing": the phases that an incoming place may have
 abbrev pub fitsIncoming : Phase → Bool
-fitsIncoming (Connecting t) = false
-fitsIncoming (Contacting t) = false
-fitsIncoming Open = true
-fitsIncoming (Lost t) = true
-fitsIncoming (Ending t) = true
+fitsIncoming = byPhase false false true true true
 
 -- "no RIU is incoming, Connecting and Contacting are outgoing"
 abbrev pub fits : Direction → Phase → Partner → Bool

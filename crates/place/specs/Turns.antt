@@ -1,8 +1,8 @@
+-- Cross-checks only: nobody has to believe what stands here.
 -- What the promises on a turn of a place speak of.
 -- Defines: ownNumbers, onNext, firstTries, afresh, NextSound, SeatOf.
 use Rattle.record.specs.declared.partner.Partner.{Partner}
 use Rattle.place.specs.declared.phase.Phase.{Phase}
-use Rattle.place.specs.declared.phase.Phase.the-variants.{Connecting, Contacting, Open, Lost, Ending}
 use Rattle.place.specs.declared.place.Direction.{Direction}
 use Rattle.place.specs.declared.place.Holding.{Holding}
 use Rattle.place.specs.declared.place.Holding.the-variants.{Free, Held}
@@ -13,7 +13,7 @@ use mathlib.Core.Bool.{Bool, true, cond, _&&_, _||_}
 use mathlib.Core.Path.{_≡_}
 use mathlib.Core.List.{List, [], _∷_}
 use lib.Dec.{eqb}
-use Rattle.place.specs.Places.{phaseNumber, tries, phaseOk, fitsIncoming}
+use Rattle.place.specs.Places.{byPhase, phaseNumber, tries, phaseOk, fitsIncoming}
 use Rattle.place.specs.Table.{request, release, onTurn}
 
 -- "Of our own numbering: 21 request connection, 22 release": none of the messages 154, 155, 156, 159
@@ -27,11 +27,7 @@ onNext P = onTurn Unit Unit (λ sent next. P next)
 
 -- the tries at which a phase is entered
 abbrev pub firstTries : Phase → ℕ
-firstTries (Connecting t) = 1
-firstTries (Contacting t) = 1
-firstTries Open = 0
-firstTries (Lost t) = 1
-firstTries (Ending t) = 1
+firstTries = byPhase 1 1 0 1 1
 
 -- one more try in the same phase, or the first of another
 abbrev pub afresh : Phase → Phase → Bool

@@ -1,9 +1,5 @@
 // The phase table of document 01: what each phase makes of each event that names a partner.
-ghost use mathlib.Core.Path.{_≡_};
-ghost use mathlib.Core.List.{[]};
-ghost use lib.ListN.{getD};
-ghost use Rattle.place.specs.Table.{refuse};
-ghost use Rattle.place.specs.Cells.{cellOf, drawn};
+ghost use Rattle.place.specs.Cells.{Draws};
 
 // The event is not taken.
 pub(crate) const NO: u8 = 0;
@@ -47,9 +43,9 @@ const TABLE: [[u8; 6]; 5] = [
     [NO, NO, FREE, TERMINATE_AGAIN, NO, FREE],
 ];
 
-// The cell at a row and a column; outside the table no event is taken.
+// The number at a row and a column; outside the table no event is taken.
 pub(crate) fn cell_at(row: usize, column: usize) -> u8
-    ensures { λ r. ⌜ cellOf r ≡ getD (getD drawn row []) column refuse ⌝ }
+    ensures { λ r. ⌜ Draws row column r ⌝ }
 {
     if row < PHASES {
         if column < EVENTS {

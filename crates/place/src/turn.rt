@@ -2,8 +2,8 @@
 ghost use mathlib.Core.Path.{_≡_};
 ghost use lib.ListN.{getD};
 ghost use Rattle.place.specs.Places.{heldPhase};
-ghost use Rattle.place.specs.Table.{cell, closing, column, judged, again, numbers, play, turn, turnedTo, versionOf, takes};
-ghost use Rattle.place.specs.Cells.{cellOf};
+ghost use Rattle.place.specs.Table.{closing, column, judged, again, numbers, turn, turnedTo, versionOf, takes};
+ghost use Rattle.place.specs.Cells.{chosenTurn, Chooses};
 use crate::action::ESTABLISHED;
 use crate::action::INCOMPATIBLE;
 use crate::action::INITIATE;
@@ -195,9 +195,9 @@ impl Phase {
         }
     }
 
-    // The cell of the phase table at this phase and an event.
+    // The number that the phase table has at this phase and an event.
     fn choice(self, event: PartnerEvent) -> u8
-        ensures { λ r. ⌜ cellOf r ≡ cell self event ⌝ }
+        ensures { λ r. ⌜ Chooses self event r ⌝ }
     {
         cell_at(self.row(), column_of(event))
     }
@@ -216,9 +216,9 @@ impl Place {
         }
     }
 
-    // What a cell makes of this place in its phase.
+    // What the turn of this number makes of this place in its phase.
     fn play(self, phase: Phase, choice: u8, version: u8, limits: Limits) -> Turned
-        ensures { λ r. ⌜ r ≡ turnedTo self (play limits phase version (cellOf choice)) ⌝ }
+        ensures { λ r. ⌜ r ≡ turnedTo self (chosenTurn limits version phase choice) ⌝ }
     {
         match choice {
             CLOSE => self.make(phase.closing()),

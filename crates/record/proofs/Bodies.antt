@@ -1,3 +1,4 @@
+-- Cross-checks only: rules told a second time.
 -- The table of event records in numbers: what the record of each kind means, and that it is refused with 3 where a field is out of range.
 -- Proves: known-means, reading-empty, reading-unknown, reading-length, level-read, mission-read, mode-read, hole-read, causes-numbered,
 -- order-read, drop-read, end-all-read, up-read, loss-read, timeout-read, version-read, call-read, ended-read, message-read.
@@ -12,7 +13,8 @@ use lib.Dec.{eqb, leb, ltb}
 use borrow.Author.Tests.{leb-true, leb-false, le-leb, ltb-true, lt-ltb, eqb-true, eq-eqb, ne-eqb}
 use Rattle.wire.proofs.Tests.{and-left, and-right, and-both, cond-case}
 use Rattle.record.specs.Partners.{partnerOk, reserved, namedOk}
-use Rattle.record.specs.Records.{lengthOf, known, causeOf, reading, Ranged}
+use Rattle.record.specs.Records.{lengthOf, known, causeOf, reading}
+use Rattle.record.specs.Ranges.{Ranged}
 use Rattle.record.specs.declared.partner.Partner.{Partner}
 use Rattle.record.specs.declared.event.Cause.the-variants.{StartOfMission, Trackside, ModeChange, ManualLevel, HoleEnd}
 use Rattle.record.specs.declared.event.PartnerEvent.the-variants.{Drop, Up, Loss, Timeout, Version, Ended}

@@ -1,3 +1,4 @@
+-- Cross-checks only: rules told a second time.
 -- When two partners are the same, and when one has the reserved number.
 -- Proves: same-refl, same-eq, samePartner-means, nid-all, nid-other, reserved-means.
 use mathlib.Core.Path.{_≡_, refl, sym, ap, _∙_}

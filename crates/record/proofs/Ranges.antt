@@ -9,9 +9,12 @@ use lib.Dec.{eqb, leb, ltb}
 use lib.ListN.{length}
 use borrow.Author.Tests.{leb-true}
 use Rattle.record.specs.Partners.{partnerOk, namedOk}
-use Rattle.record.specs.Records.{reading, readingNumber, Body, bodies, bodyOf, noBody, partnerBody, causes, partnerIn}
+use Rattle.record.specs.Records.{reading, causes, partnerIn}
+use Rattle.record.specs.Ranges.{readingNumber}
+use Rattle.record.specs.Records.{KindRow, kinds, rowOf, noRow, partnerRow}
 use Rattle.record.specs.Records.{known, lengthOf, highestLevel, messageVersion, messageCall, messageEnded, highestVersion}
-use Rattle.record.specs.Records.{messageOk, messageMeans, partnerEventOk, eventOk, readingOk}
+use Rattle.record.specs.Records.{messageOk, messageMeans}
+use Rattle.record.specs.Ranges.{partnerEventOk, eventOk, readingOk}
 use Rattle.wire.specs.Bytes.{byte, bit}
 use Rattle.wire.specs.Refusals.{wrongLength, unknownKind, outOfRange}
 use Rattle.record.specs.declared.event.PartnerEvent.{PartnerEvent}
@@ -26,10 +29,10 @@ abbrev Ok : Reading → Type 0
 Ok r = readingOk r ≡ true
 
 -- where the ranges of a row hold, its event is in its ranges
-abbrev Ranged : Body → Type 0
+abbrev Ranged : KindRow → Type 0
 Ranged body = (s : List ℕ) → body .ranges s ≡ true → eventOk (body .means s) ≡ true
 
-partner-ranged : (e : PartnerEvent) → partnerEventOk e ≡ true → Ranged (partnerBody e)
+partner-ranged : (e : PartnerEvent) → partnerEventOk e ≡ true → Ranged (partnerRow e)
 partner-ranged e h s ok = and-both (namedOk (partnerIn s)) (partnerEventOk e) ok h
 
 message-ranged : (number version : ℕ) (p : Partner)
@@ -45,9 +48,9 @@ message-ranged number version p ok h = by (eqb number messageVersion) (eqb numbe
     by false true c h = ok
     by false false c h = and-both (namedOk p) true ok refl
 
-bodies-ranged : (kind : ℕ) → Ranged (bodyOf kind)
+bodies-ranged : (kind : ℕ) → Ranged (rowOf kind)
 bodies-ranged =
-    getD-all Ranged bodies noBody (
+    getD-all Ranged kinds noRow (
       λ s ok. true-false _ ok refl,
       (
         λ s ok. and-left (leb (byte s 1) highestLevel) (bit (byte s 2)) ok,
@@ -96,7 +99,7 @@ reading-ok [] = refl
 reading-ok (kind ∷ body) =
     cond-holds Ok (known kind) _ (Refused unknownKind)
     (cond-holds Ok (eqb (length (kind ∷ body)) (lengthOf kind)) _ (Refused wrongLength)
-    (cond-case Ok (bodyOf kind .ranges (kind ∷ body)) (Meant (bodyOf kind .means (kind ∷ body))) (Refused outOfRange)
+    (cond-case Ok (rowOf kind .ranges (kind ∷ body)) (Meant (rowOf kind .means (kind ∷ body))) (Refused outOfRange)
     (bodies-ranged kind (kind ∷ body))
     (λ no-range. refl))
     refl)

@@ -1,3 +1,4 @@
+-- Cross-checks only: rules told a second time.
 -- One record off the front of a log.
 -- Proves: part-is, take-end, by-kind, take-unknown, take-short, part-reads, take-whole, taken-short, taken-long, taken-ok, taken-twelve,
 -- taken-nothing, taken-unknown, taken-cut, taken-whole.
@@ -14,8 +15,11 @@ use lib.Seq.{drop-cons, getD-take, getD-drop, length-take-le}
 use borrow.Author.Tests.{le-ltb, lt-ltb, le-leb, lt-leb, ltb-true, leb-true, leb-false}
 use Rattle.wire.proofs.Tests.{cond-case}
 use Rattle.wire.specs.Refusals.{logTooLong}
-use Rattle.record.specs.Records.{lengths, known, lengthOf, bodyOf, fields, reading}
-use Rattle.record.specs.Takes.{nothingLeft, recordShort, kindUnknown, longestLog, takeOne, taken, TakenOk}
+use Rattle.record.specs.Records.{known, lengthOf, reading}
+use Rattle.record.specs.Records.{kinds, rowOf}
+use Rattle.record.specs.Rows.{fields}
+use Rattle.record.specs.Takes.{nothingLeft, recordShort, kindUnknown, longestLog, takeOne, taken}
+use Rattle.record.specs.TakeWords.{TakenOk}
 use Rattle.record.specs.declared.event.Reading.{Reading}
 use Rattle.record.specs.declared.take.Taken.the-variants.{Whole, Stopped, Refused}
 use Rattle.record.proofs.ByKind.{length-none, read-fields}
@@ -49,7 +53,7 @@ module _ (log : List ℕ) (at : ℕ) where
         cond (known kind) (cond (leb long n) (Whole long (reading (take long l))) (Stopped recordShort)) (Stopped kindUnknown))
         left (sym cut)
 
-    pub take-unknown : (1 ≤ getD log at 0 → length lengths ≤ getD log at 0) → Stopped kindUnknown ≡ takeOne (drop at log)
+    pub take-unknown : (1 ≤ getD log at 0 → length kinds ≤ getD log at 0) → Stopped kindUnknown ≡ takeOne (drop at log)
     take-unknown none = sym (by-kind ∙ simp (le-ltb 0 (lengthOf (getD log at 0)) (omega (arith, length-none (getD log at 0) none))))
 
     module _ (l : ℕ) (of-kind : l ≡ lengthOf (getD log at 0)) (has : 1 ≤ lengthOf (getD log at 0)) where
@@ -60,7 +64,7 @@ module _ (log : List ℕ) (at : ℕ) where
 
       module _ (fits : l ≤ length log - at) where
         -- a whole record that is lent reads as its fields
-        pub part-reads : (part : List ℕ) → part ≡ take l (drop at log) → fields (bodyOf (getD log at 0)) part ≡ reading part
+        pub part-reads : (part : List ℕ) → part ≡ take l (drop at log) → fields (rowOf (getD log at 0)) part ≡ reading part
         part-reads part lent =
             let long : length part ≡ l = ap length lent ∙ length-take-le l (drop at log) (simp length-drop (omega arith)) in
             let kind : getD part 0 0 ≡ getD log at 0 =
@@ -69,7 +73,7 @@ module _ (log : List ℕ) (at : ℕ) where
             ∙ getD-drop at log 0 0
             ∙ ap (λ i. getD log i 0) (add-zero at) in
             let same : lengthOf (getD log at 0) ≡ lengthOf (getD part 0 0) = ap lengthOf (sym kind) in
-            ap (λ k. fields (bodyOf k) part) (sym kind)
+            ap (λ k. fields (rowOf k) part) (sym kind)
             ∙ read-fields part (λ h. omega (arith, long)) l (of-kind ∙ same) (subst (λ n. 1 ≤ n) same has) long
 
         pub take-whole : (r : Reading) → r ≡ reading (take l (drop at log)) → Whole l r ≡ takeOne (drop at log)

@@ -1,8 +1,10 @@
 -- Document 01, "What the box remembers", the part on a partner; and the number that request Q-2 gives a meaning.
--- Defines: rbc, riu, isRbc, partnerOk, samePartner, nidRbc, reservedNumber, reserved, namedOk.
+-- Defines: rbc, riu, partnerAt, partnerBytes, isRbc, partnerOk, samePartner, nidRbc, reservedNumber, reserved, namedOk.
 use Prim.Native.Nat.{ℕ, _+_, _*_, _%_}
 use mathlib.Core.Bool.{Bool, _&&_, not}
+use mathlib.Core.List.{List, [], _∷_}
 use lib.Dec.{eqb, leb}
+use Rattle.wire.specs.Bytes.{byte}
 use Rattle.record.specs.declared.partner.Partner.{Partner}
 
 -- "a type (0 RBC, 1 RIU)"
@@ -11,6 +13,13 @@ rbc = 0
 
 abbrev pub riu : ℕ
 riu = 1
+
+-- "Big-endian"; "Partner = type byte, three number bytes": read at this offset, and written
+abbrev pub partnerAt : ℕ → List ℕ → Partner
+partnerAt i s = record { kind = byte s i; high = byte s (i + 1); middle = byte s (i + 2); low = byte s (i + 3) }
+
+abbrev pub partnerBytes : Partner → List ℕ
+partnerBytes p = p .kind ∷ p .high ∷ p .middle ∷ p .low ∷ []
 
 -- the partner is an RBC
 abbrev pub isRbc : Partner → Bool

@@ -2,11 +2,12 @@
 ghost use mathlib.Core.Path.{_≡_};
 ghost use Prim.Native.Nat.{_≤_};
 ghost use mathlib.Core.Bool.{cond, _&&_};
+ghost use lib.Dec.{ltb};
 ghost use lib.ListN.{length};
-ghost use Rattle.record.specs.Partners.{namedOk};
-ghost use Rattle.record.specs.Records.{lengthOf, partnerIn, causeOf, orderOk, orderMeans, messageOk, messageMeans, fields};
-ghost use Rattle.record.specs.Records.{bodyOf, levelBody, missionBody, holeBody, orderBody, partnerBody, endAllBody};
-ghost use Rattle.record.specs.Records.{messageBody, reading};
+ghost use Rattle.wire.specs.Bytes.{bit, flag};
+ghost use Rattle.record.specs.Partners.{partnerOk, namedOk};
+ghost use Rattle.record.specs.Records.{lengthOf, partnerIn, causes, causeOf, messageOk, messageMeans, rowOf, partnerRow, reading};
+ghost use Rattle.record.specs.Rows.{fields};
 ghost use Rattle.wire.specs.Refusals.{outOfRange};
 use crate::event::Cause;
 use crate::event::Event;
@@ -103,7 +104,7 @@ fn partner_in(s: &[u8]) -> Partner
 
 fn level_body(s: &[u8]) -> Reading
     requires { ⌜ 3 ≤ length (now s) ⌝ }
-    ensures { λ r. ⌜ r ≡ fields levelBody (now (s .entry)) ⌝ }
+    ensures { λ r. ⌜ r ≡ fields (rowOf 1) (now (s .entry)) ⌝ }
 {
     let level = s[1];
     let manual = s[2];
@@ -118,7 +119,7 @@ fn level_body(s: &[u8]) -> Reading
 
 fn mission_body(s: &[u8]) -> Reading
     requires { ⌜ 2 ≤ length (now s) ⌝ }
-    ensures { λ r. ⌜ r ≡ fields missionBody (now (s .entry)) ⌝ }
+    ensures { λ r. ⌜ r ≡ fields (rowOf 2) (now (s .entry)) ⌝ }
 {
     let mission = s[1];
     within(
@@ -131,7 +132,7 @@ fn mission_body(s: &[u8]) -> Reading
 
 fn hole_body(s: &[u8]) -> Reading
     requires { ⌜ 2 ≤ length (now s) ⌝ }
-    ensures { λ r. ⌜ r ≡ fields holeBody (now (s .entry)) ⌝ }
+    ensures { λ r. ⌜ r ≡ fields (rowOf 4) (now (s .entry)) ⌝ }
 {
     let entered = s[1];
     within(
@@ -157,7 +158,8 @@ fn cause_of(b: u8) -> Cause
 fn order_of(partner: Partner, accepting: u8, cause: u8) -> Reading
     ensures { λ r.
         ⌜ r
-        ≡ cond (orderOk partner accepting cause) (Reading.Meant (orderMeans partner accepting cause))
+        ≡ cond (partnerOk partner && (bit accepting && ltb cause (length causes)))
+        (Reading.Meant (Event.Order partner (flag accepting) (causeOf cause)))
         (Reading.Refused outOfRange) ⌝ }
 {
     within(
@@ -172,14 +174,14 @@ fn order_of(partner: Partner, accepting: u8, cause: u8) -> Reading
 
 fn order_body(s: &[u8]) -> Reading
     requires { ⌜ 7 ≤ length (now s) ⌝ }
-    ensures { λ r. ⌜ r ≡ fields orderBody (now (s .entry)) ⌝ }
+    ensures { λ r. ⌜ r ≡ fields (rowOf 5) (now (s .entry)) ⌝ }
 {
     order_of(partner_in(s), s[5], s[6])
 }
 
 fn partner_body(s: &[u8], event: PartnerEvent) -> Reading
     requires { ⌜ 5 ≤ length (now s) ⌝ }
-    ensures { λ r. ⌜ r ≡ fields (partnerBody event) (now (s .entry)) ⌝ }
+    ensures { λ r. ⌜ r ≡ fields (partnerRow event) (now (s .entry)) ⌝ }
 {
     let partner = partner_in(s);
     within(partner.can_be_named(), Event::Named { partner, event })
@@ -187,7 +189,7 @@ fn partner_body(s: &[u8], event: PartnerEvent) -> Reading
 
 fn end_all_body(s: &[u8]) -> Reading
     requires { ⌜ 2 ≤ length (now s) ⌝ }
-    ensures { λ r. ⌜ r ≡ fields endAllBody (now (s .entry)) ⌝ }
+    ensures { λ r. ⌜ r ≡ fields (rowOf 7) (now (s .entry)) ⌝ }
 {
     within(s[1] <= 1, Event::EndAll)
 }
@@ -222,7 +224,7 @@ fn message_of(partner: Partner, number: u8, version: u8) -> Reading
 
 fn message_body(s: &[u8]) -> Reading
     requires { ⌜ 7 ≤ length (now s) ⌝ }
-    ensures { λ r. ⌜ r ≡ fields messageBody (now (s .entry)) ⌝ }
+    ensures { λ r. ⌜ r ≡ fields (rowOf 11) (now (s .entry)) ⌝ }
 {
     message_of(partner_in(s), s[5], s[6])
 }
@@ -230,7 +232,7 @@ fn message_body(s: &[u8]) -> Reading
 // What the fields of a record of this kind mean; refusal 3 where one is outside its range.
 pub(crate) fn fields_of(kind: u8, s: &[u8]) -> Reading
     requires { ⌜ lengthOf kind ≤ length (now s) ⌝ }
-    ensures { λ r. ⌜ r ≡ fields (bodyOf kind) (now (s .entry)) ⌝ }
+    ensures { λ r. ⌜ r ≡ fields (rowOf kind) (now (s .entry)) ⌝ }
 {
     match kind {
         KIND_LEVEL => level_body(s),

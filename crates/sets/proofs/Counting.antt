@@ -11,7 +11,7 @@ use native.Mathlib.Omega.{arith}
 use lib.ListN.{length}
 use Rattle.wire.proofs.Tests.{and-left, and-right, cond-case, true-false}
 use Rattle.record.specs.declared.partner.Partner.{Partner}
-use Rattle.unit.specs.Kept.{once}
+use Rattle.wire.specs.Bytes.{asBit}
 use Rattle.sets.specs.Members.{isFor, hasMember, memberFor, without, joining, those, allOf}
 use Rattle.sets.specs.SixSets.{Six, setIn, withSet, size, everyone, whereabouts}
 use Rattle.sets.specs.SetSteps.{withMember}
@@ -36,7 +36,7 @@ pub countIn-map : (test : Member → Bool) (f : Member → Member) (ms : List Me
     → countIn test (map f ms) ≡ countIn (λ m. test (f m)) ms
 unfolding countIn
 countIn-map test f [] = refl
-countIn-map test f (m ∷ ms) = ap (λ k. once (test (f m)) + k) (countIn-map test f ms)
+countIn-map test f (m ∷ ms) = ap (λ k. asBit (test (f m)) + k) (countIn-map test f ms)
 
 -- none passes the test that nobody passes
 pub countIn-none : (ms : List Member) → countIn (λ m. false) ms ≡ 0
@@ -59,7 +59,7 @@ pub countIn-same : (test other : Member → Bool) → ((m : Member) → test m �
     → countIn test ms ≡ countIn other ms
 unfolding countIn
 countIn-same test other same [] = refl
-countIn-same test other same (m ∷ ms) = ap₂ (λ b k. once b + k) (same m) (countIn-same test other same ms)
+countIn-same test other same (m ∷ ms) = ap₂ (λ b k. asBit b + k) (same m) (countIn-same test other same ms)
 
 -- those that pass a first test are counted by one, the others by another
 pub countIn-parts : (test passed failed : Member → Bool) (ms : List Member)
@@ -72,7 +72,7 @@ countIn-parts test passed failed (m ∷ ms) = by (test m) (countIn-parts test pa
     by : (b : Bool)
         → countIn (λ m. cond (test m) (passed m) (failed m)) ms
         ≡ countIn passed (those test ms) + countIn failed (those (λ m. not (test m)) ms)
-        → once (cond b (passed m) (failed m)) + countIn (λ m. cond (test m) (passed m) (failed m)) ms
+        → asBit (cond b (passed m) (failed m)) + countIn (λ m. cond (test m) (passed m) (failed m)) ms
         ≡ countIn passed (cond b (m ∷ those test ms) (those test ms))
         + countIn failed (cond (not b) (m ∷ those (λ m. not (test m)) ms) (those (λ m. not (test m)) ms))
     by true rest = omega arith
@@ -86,7 +86,7 @@ none-fails test (m ∷ ms) none = by (test m) (none-fails test ms) none
   where
     by : (b : Bool)
         → (countIn (λ m. not (test m)) ms ≡ 0 → allOf test ms ≡ true)
-        → once (not b) + countIn (λ m. not (test m)) ms ≡ 0
+        → asBit (not b) + countIn (λ m. not (test m)) ms ≡ 0
         → (b && allOf test ms) ≡ true
     by true rest none = rest (omega arith)
     by false rest none = absurd (omega arith)
@@ -96,7 +96,7 @@ pub all-pass : (test : Member → Bool) (ms : List Member) → allOf test ms ≡
 unfolding countIn allOf
 all-pass test [] ok = refl
 all-pass test (m ∷ ms) ok =
-    ap₂ (λ b k. once (not b) + k) (and-left (test m) (allOf test ms) ok) (all-pass test ms (and-right (test m) (allOf test ms) ok))
+    ap₂ (λ b k. asBit (not b) + k) (and-left (test m) (allOf test ms) ok) (all-pass test ms (and-right (test m) (allOf test ms) ok))
 
 -- a partner that is a member is counted, and one that is none is not
 pub within-counted : (p : Partner) (ms : List Member) → hasMember p ms ≡ true → 1 ≤ countIn (isFor p) ms
@@ -107,7 +107,7 @@ within-counted p (m ∷ ms) is = by (isFor p m) (within-counted p ms) is
     by : (b : Bool)
         → (hasMember p ms ≡ true → 1 ≤ countIn (isFor p) ms)
         → (b || hasMember p ms) ≡ true
-        → 1 ≤ once b + countIn (isFor p) ms
+        → 1 ≤ asBit b + countIn (isFor p) ms
     by true rest is = omega arith
     by false rest is =
         let more = rest is in
@@ -122,7 +122,7 @@ counted-within p (m ∷ ms) none = by (isFor p m) (counted-within p ms) none
     by : (b : Bool)
         → (hasMember p ms ≡ false → countIn (isFor p) ms ≡ 0)
         → (b || hasMember p ms) ≡ false
-        → once b + countIn (isFor p) ms ≡ 0
+        → asBit b + countIn (isFor p) ms ≡ 0
     by true rest none = true-false true refl none
     by false rest none =
         let nobody = rest none in
@@ -145,15 +145,15 @@ member-is p (m ∷ ms) is = by (isFor p m) refl (member-is p ms) is
 -- a removal takes it out, and no other
 pub countIn-without : (test : Member → Bool) (p : Partner) (ms : List Member)
     → hasMember p ms ≡ true
-    → countIn test (without p ms) + once (test (memberFor p ms)) ≡ countIn test ms
+    → countIn test (without p ms) + asBit (test (memberFor p ms)) ≡ countIn test ms
 unfolding countIn hasMember memberFor without
 countIn-without test p [] is = true-false false is refl
 countIn-without test p (m ∷ ms) is = by (isFor p m) (countIn-without test p ms) is
   where
     by : (b : Bool)
-        → (hasMember p ms ≡ true → countIn test (without p ms) + once (test (memberFor p ms)) ≡ countIn test ms)
+        → (hasMember p ms ≡ true → countIn test (without p ms) + asBit (test (memberFor p ms)) ≡ countIn test ms)
         → (b || hasMember p ms) ≡ true
-        → countIn test (cond b ms (m ∷ without p ms)) + once (test (cond b m (memberFor p ms))) ≡ once (test m) + countIn test ms
+        → countIn test (cond b ms (m ∷ without p ms)) + asBit (test (cond b m (memberFor p ms))) ≡ asBit (test m) + countIn test ms
     by true rest is = omega arith
     by false rest is =
         let less = rest is in
@@ -182,7 +182,7 @@ many-in test TerminatingSessions x = omega arith
 
 -- a member that enters is one more
 pub member-many : (test : SetName → Member → Bool) (w : SetName) (m : Member) (x : Six)
-    → many test (withMember w m x) ≡ many test x + once (test w m)
+    → many test (withMember w m x) ≡ many test x + asBit (test w m)
 unfolding countIn
 member-many test w m x =
     let store = many-set test w (joining (setIn w x) m) x in
@@ -218,7 +218,7 @@ many-size x =
 
 -- two tests of which a third is the sum
 countIn-both : (test other all : Member → Bool)
-    → ((m : Member) → once (test m) + once (other m) ≡ once (all m))
+    → ((m : Member) → asBit (test m) + asBit (other m) ≡ asBit (all m))
     → (ms : List Member)
     → countIn test ms + countIn other ms ≡ countIn all ms
 unfolding countIn
@@ -230,7 +230,7 @@ countIn-both test other all sum (m ∷ ms) =
 
 -- and so over the six sets
 pub many-both : (test other all : SetName → Member → Bool)
-    → ((w : SetName) (m : Member) → once (test w m) + once (other w m) ≡ once (all w m))
+    → ((w : SetName) (m : Member) → asBit (test w m) + asBit (other w m) ≡ asBit (all w m))
     → (x : Six)
     → many test x + many other x ≡ many all x
 unfolding many

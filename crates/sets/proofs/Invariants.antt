@@ -14,7 +14,8 @@ use Rattle.record.proofs.Partners.{same-eq}
 use Rattle.place.specs.Places.{vacant, holds}
 use Rattle.place.specs.declared.place.Direction.{Direction}
 use Rattle.place.specs.declared.place.Direction.the-variants.{Outgoing, Incoming}
-use Rattle.unit.specs.Kept.{weigh, here}
+use Rattle.unit.specs.Kept.{here}
+use Rattle.wire.specs.Sums.{sum}
 use Rattle.unit.specs.States.{trainOk, seek, sound}
 use Rattle.unit.specs.declared.search.Found.{Found}
 use Rattle.unit.specs.declared.search.Found.the-variants.{At, Vacant, Full}
@@ -86,7 +87,7 @@ module _ (b : SetState) (ready : setReady b ≡ true) where
   unfolding unpacked
   one-set p w v in-w in-v = by (seek p (s .places)) (seek-ok p (s .places))
     where
-      some-place : 1 ≤ weigh (here (holds p)) (s .places)
+      some-place : 1 ≤ sum (here (holds p)) (s .places)
       some-place =
           let held = same .members (λ w. isFor p) in
           let one = within-counted p (setIn w (sixIn b)) in-w in

@@ -1,5 +1,6 @@
 pub mod Packing
 pub mod MemberLaws
+pub mod FourItems
 pub mod MemberLoops
 pub mod Counting
 pub mod SixLaws

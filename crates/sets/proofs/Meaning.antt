@@ -22,7 +22,9 @@ use Rattle.place.specs.declared.place.Direction.the-variants.{Outgoing, Incomin
 use Rattle.place.specs.declared.place.Holding.{Holding}
 use Rattle.place.specs.declared.place.Holding.the-variants.{Free, Held}
 use Rattle.place.specs.declared.place.Place.{Place}
-use Rattle.unit.specs.Kept.{weigh, once, here}
+use Rattle.unit.specs.Kept.{here}
+use Rattle.wire.specs.Sums.{sum}
+use Rattle.wire.specs.Bytes.{asBit}
 use Rattle.unit.specs.Lasts.{lastOk}
 use Rattle.unit.specs.States.{placeCount, limitsOk, trainOk, marksOk, sound}
 use Rattle.unit.specs.declared.state.State.{State}
@@ -43,7 +45,7 @@ use Rattle.sets.proofs.Counting.{none-fails, all-pass, within-counted, 
 
 -- the places hold what the sets have
 abbrev pub Same : List Place → Six → Type 0
-Same ps x = (test : SetName → Member → Bool) → weigh (here (placePasses test)) ps ≡ many test x
+Same ps x = (test : SetName → Member → Bool) → sum (here (placePasses test)) ps ≡ many test x
 
 -- nobody passes a test that nobody passes
 and-false : (b : Bool) → (b && false) ≡ false
@@ -70,10 +72,10 @@ abbrev unsound : Limits → SetName → Member → Bool
 unsound l w m = not (memberOk l w m)
 
 -- the places that are not sound by themselves are those of such members
-bad-places : (l : Limits) (ps : List Place) → weigh (here (placePasses (unsound l))) ps ≡ weigh (bad l) ps
+bad-places : (l : Limits) (ps : List Place) → sum (here (placePasses (unsound l))) ps ≡ sum (bad l) ps
 bad-places l ps = weigh-same _ _ (λ p. by (p .holding)) ps
   where
-    turned : (a b : Bool) → a ≡ b → once (not a) ≡ cond b 0 1
+    turned : (a b : Bool) → a ≡ b → asBit (not a) ≡ cond b 0 1
     turned true b same = ap (λ c. cond c 0 1) same
     turned false b same = ap (λ c. cond c 0 1) same
 
@@ -148,7 +150,7 @@ lone-apart (m ∷ ms) one =
   where
     by : (b : Bool) → hasMember (m .partner) ms ≡ b → not b ≡ true
     by true is =
-        let itself : once (isFor (m .partner) m) ≡ 1 = ap once (same-refl (m .partner)) in
+        let itself : asBit (isFor (m .partner) m) ≡ 1 = ap asBit (same-refl (m .partner)) in
         let again = within-counted (m .partner) ms is in
         let all = one (m .partner) in
         absurd (omega arith)
@@ -170,7 +172,7 @@ apart-lone (m ∷ ms) ok q =
         → isFor q m ≡ b
         → countIn (isFor q) ms ≤ 1
         → not (hasMember (m .partner) ms) ≡ true
-        → once b + countIn (isFor q) ms ≤ 1
+        → asBit b + countIn (isFor q) ms ≤ 1
     by true is rest none =
         let nobody = counted-within (m .partner) ms (absent (hasMember (m .partner) ms) none) in
         let same : countIn (isFor q) ms ≡ countIn (isFor (m .partner)) ms = ap (λ r. countIn (isFor r) ms) (same-eq q (m .partner) is) in
@@ -256,13 +258,13 @@ sets-sound s z same four ok =
 
 -- the sets gathered from places mean the same
 gather-same : (ps : List Place) → Same ps (gather ps)
-unfolding weigh gather many countIn
+unfolding sum gather many countIn
 gather-same [] test = refl
 gather-same (p ∷ ps) test = by (p .holding) (gather-same ps test)
   where
     by : (k : Holding)
-        → weigh (here (placePasses test)) ps ≡ many test (gather ps)
-        → here (placePasses test) (record { holding = k }) + weigh (here (placePasses test)) ps
+        → sum (here (placePasses test)) ps ≡ many test (gather ps)
+        → here (placePasses test) (record { holding = k }) + sum (here (placePasses test)) ps
         ≡ many test
         (onHolding (gather ps)
         (λ d ph q. withSet (nameOf d ph) (newMember d (tries ph) q ∷ setIn (nameOf d ph) (gather ps)) (gather ps))
@@ -281,16 +283,16 @@ pub setsOf-sound : (s : State) → sound s ≡ true → soundSets (setsOf s) ≡
 setsOf-sound s ok = sound-sets s (setsOf s) (setsOf-same s) ok
 
 -- places joined weigh what both weigh
-weigh-append : (f : Place → ℕ) (xs ys : List Place) → weigh f (xs ++ ys) ≡ weigh f xs + weigh f ys
-unfolding weigh
+weigh-append : (f : Place → ℕ) (xs ys : List Place) → sum f (xs ++ ys) ≡ sum f xs + sum f ys
+unfolding sum
 weigh-append f [] ys = omega arith
 weigh-append f (p ∷ xs) ys =
     let rest = weigh-append f xs ys in
     omega arith
 
 -- and free ones nothing
-weigh-vacant : (test : SetName → Member → Bool) (n : ℕ) → weigh (here (placePasses test)) (replicate n vacant) ≡ 0
-unfolding weigh
+weigh-vacant : (test : SetName → Member → Bool) (n : ℕ) → sum (here (placePasses test)) (replicate n vacant) ≡ 0
+unfolding sum
 weigh-vacant test zero = refl
 weigh-vacant test (suc n) =
     let rest = weigh-vacant test n in
@@ -320,11 +322,11 @@ seat-passes l test w m ok = by w (m .direction) (m .tries) (and-right (namedOk (
 -- so the places of sound members of a set count as the members do
 seats-passing : (l : Limits) (test : SetName → Member → Bool) (w : SetName) (ms : List Member)
     → allOf (memberOk l w) ms ≡ true
-    → weigh (here (placePasses test)) (map (seatOf w) ms) ≡ countIn (test w) ms
-unfolding weigh countIn allOf
+    → sum (here (placePasses test)) (map (seatOf w) ms) ≡ countIn (test w) ms
+unfolding sum countIn allOf
 seats-passing l test w [] ok = refl
 seats-passing l test w (m ∷ ms) ok =
-    ap₂ (λ b k. once b + k) (seat-passes l test w m (and-left (memberOk l w m) (allOf (memberOk l w) ms) ok))
+    ap₂ (λ b k. asBit b + k) (seat-passes l test w m (and-left (memberOk l w m) (allOf (memberOk l w) ms) ok))
     (seats-passing l test w ms (and-right (memberOk l w m) (allOf (memberOk l w) ms) ok))
 
 -- the places of sound members mean the same

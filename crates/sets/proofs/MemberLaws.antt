@@ -4,13 +4,14 @@
 use mathlib.Core.Path.{_≡_, refl, sym, ap, _∙_}
 use mathlib.Core.Bool.{Bool, true, false, cond, _&&_, _||_, not}
 use mathlib.Core.List.{List, [], _∷_, _++_}
-use Prim.Native.Nat.{ℕ, suc, _≤_}
+use Prim.Native.Nat.{suc, _≤_}
 use native.Mathlib.Omega.{arith}
 use lib.Dec.{ltb}
 use lib.ListN.{length, getD, take, drop}
-use borrow.Author.Tests.{lt-ltb, le-ltb, ltb-true, ltb-false}
+use borrow.Author.Tests.{lt-ltb}
 use Rattle.wire.proofs.Tests.{cond-case}
 use Rattle.record.specs.declared.partner.Partner.{Partner}
+use Rattle.unit.proofs.Searches.{ltb-suc}
 use Rattle.sets.specs.Members.{noMember, isFor, hasMember, memberFor, without, those, allOf, apart}
 use Rattle.sets.specs.Holding.{firstFor}
 use Rattle.sets.specs.declared.members.Member.{Member}
@@ -46,18 +47,6 @@ module _ (l rest : List Member) (m : Member) (is : l ≡ m ∷ rest) where
   pub apart-not : hasMember (m .partner) rest ≡ true → apart l ≡ false
   unfolding apart
   apart-not there = ap apart is ∙ ap (λ b. not b && apart rest) there
-
--- numbers that follow two others stand as they do
-ltb-suc : (a b : ℕ) → ltb a b ≡ ltb (suc a) (suc b)
-ltb-suc a b = by (ltb a b) refl
-  where
-    by : (x : Bool) → ltb a b ≡ x → ltb a b ≡ ltb (suc a) (suc b)
-    by true e =
-        let below = ltb-true a b e in
-        e ∙ sym (lt-ltb (suc a) (suc b) (omega arith))
-    by false e =
-        let above = ltb-false a b e in
-        e ∙ sym (le-ltb (suc a) (suc b) (omega arith))
 
 -- a partner is a member where a number is found
 pub within-first : (p : Partner) (ms : List Member) → hasMember p ms ≡ ltb (firstFor p ms) (length ms)

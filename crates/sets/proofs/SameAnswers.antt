@@ -9,13 +9,14 @@ use native.Mathlib.Omega.{arith}
 use lib.Dec.{leb}
 use Rattle.wire.specs.Refusals as refusal
 use Rattle.wire.proofs.Tests.{and-both, cond-case}
-use Rattle.record.specs.Records.{reading, readingOk}
+use Rattle.record.specs.Records.{reading}
+use Rattle.record.specs.Ranges.{readingOk}
 use Rattle.record.specs.declared.event.Event.{Event}
 use Rattle.record.specs.declared.event.Reading.{Reading}
 use Rattle.record.specs.declared.event.Reading.the-variants.{Meant, Refused}
 use Rattle.record.proofs.Ranges.{reading-ok}
 use Rattle.place.specs.declared.limits.Limits.{Limits}
-use Rattle.unit.specs.Kept.{weigh}
+use Rattle.wire.specs.Sums.{sum}
 use Rattle.unit.specs.OnRecords.{actionRoom, onReading, applied, onRecord, trace}
 use Rattle.unit.specs.States.{limitsOk, sound, cold, coldStart, noLimits}
 use Rattle.unit.specs.Steps.{Outcome, refused, step}
@@ -189,7 +190,7 @@ alike-after s b (bytes ∷ history) alike =
 
 -- the two cold starts
 cold-same : (l : Limits) → SameState (cold l) (unpacked (setCold l))
-unfolding cold setCold many countIn weigh size
+unfolding cold setCold many countIn sum size
 cold-same l =
     subst (SameState (cold l)) (sym (unpacked-few (coldSets l) (omega arith)))
     (record { limits = refl; train = refl; marks = refl; members = λ test. refl; last = refl })

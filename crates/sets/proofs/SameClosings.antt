@@ -20,7 +20,9 @@ use Rattle.place.specs.declared.turn.Turn.{Turn}
 use Rattle.place.specs.declared.turn.Turn.the-variants.{Stays, Released, Sends}
 use Rattle.place.specs.declared.turn.Closing.{Closing}
 use Rattle.place.specs.declared.turn.Closing.the-variants.{Every, Sessions, Nothing}
-use Rattle.unit.specs.Kept.{count, weigh, once, here}
+use Rattle.unit.specs.Kept.{count, here}
+use Rattle.wire.specs.Sums.{sum}
+use Rattle.wire.specs.Bytes.{asBit}
 use Rattle.unit.specs.Steps.{act, actionsIn, closed, closingActions}
 use Rattle.unit.specs.declared.answer.Action.{Action}
 use Rattle.unit.proofs.Counts.{count-append}
@@ -46,8 +48,8 @@ afterClosing which test w m = cond (shuts which w m) (afterDrop test w m) (test 
 
 -- the places after a closing, weighed
 weigh-after : (f : Place → ℕ) (which : Closing) (ps : List Place)
-    → weigh f (closed which ps) ≡ weigh (λ p. f (placeAfter p (closedBy which p))) ps
-unfolding weigh closed
+    → sum f (closed which ps) ≡ sum (λ p. f (placeAfter p (closedBy which p))) ps
+unfolding sum closed
 weigh-after f which [] = refl
 weigh-after f which (p ∷ ps) = ap (λ k. f (placeAfter p (closedBy which p)) + k) (weigh-after f which ps)
 
@@ -130,7 +132,7 @@ six-closed which test x =
 pub closed-same : (which : Closing) (ps : List Place) (x : Six) → Same ps x → Same (closed which ps) (closedSix which x)
 closed-same which ps x same test =
     weigh-after (here (placePasses test)) which ps
-    ∙ weigh-same _ _ (λ p. ap once (place-closed which test (p .holding))) ps
+    ∙ weigh-same _ _ (λ p. ap asBit (place-closed which test (p .holding))) ps
     ∙ same (afterClosing which test)
     ∙ sym (six-closed which test x)
 
@@ -143,8 +145,8 @@ closingSends which test w m =
 
 -- the actions of a closing of places, place by place
 weigh-sent : (test : Action → Bool) (which : Closing) (ps : List Place)
-    → count test (closingActions which ps) ≡ weigh (λ p. count test (actionsIn (p .holding) (closedBy which p))) ps
-unfolding weigh count closingActions
+    → count test (closingActions which ps) ≡ sum (λ p. count test (actionsIn (p .holding) (closedBy which p))) ps
+unfolding sum count closingActions
 weigh-sent test which [] = refl
 weigh-sent test which (p ∷ ps) =
     let rest = weigh-sent test which ps in
@@ -161,8 +163,8 @@ turnSends test p t = count test (map (act p) (numbers t))
 
 -- a turn that is taken for some, and sends one action
 some-send : (test : Action → Bool) (p : Partner) (b : Bool) (t : Turn) (passes : Bool)
-    → turnSends test p t ≡ once passes
-    → turnSends test p (cond (b && true) t Stays) ≡ once (cond b passes false)
+    → turnSends test p t ≡ asBit passes
+    → turnSends test p (cond (b && true) t Stays) ≡ asBit (cond b passes false)
 unfolding count
 some-send test p true t passes one = one
 some-send test p false t passes one = refl
@@ -192,7 +194,7 @@ count-all-sent : (test : Action → Bool) (number : ℕ) (ms : List Member)
     → count test (sentAll number ms) ≡ countIn (λ m. test (act (m .partner) number)) ms
 unfolding count countIn
 count-all-sent test number [] = refl
-count-all-sent test number (m ∷ ms) = ap (λ k. once (test (act (m .partner) number)) + k) (count-all-sent test number ms)
+count-all-sent test number (m ∷ ms) = ap (λ k. asBit (test (act (m .partner) number)) + k) (count-all-sent test number ms)
 
 -- those of a set that a closing is for
 going : (which : Closing) (w : SetName) (test : Action → Bool) (number : ℕ) (ms : List Member)

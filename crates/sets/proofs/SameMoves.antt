@@ -20,7 +20,7 @@ use Rattle.place.specs.declared.place.Direction.{Direction}
 use Rattle.place.specs.declared.place.Direction.the-variants.{Outgoing, Incoming}
 use Rattle.place.specs.declared.turn.Turn.{Turn}
 use Rattle.place.specs.declared.turn.Turn.the-variants as turning
-use Rattle.unit.specs.Kept.{once}
+use Rattle.wire.specs.Bytes.{asBit}
 use Rattle.sets.specs.Members.{hasMember, memberFor, without}
 use Rattle.sets.specs.SixSets.{Six, setIn, withSet}
 use Rattle.sets.specs.Moves.{moveOf, onMove, moves, sentIn}
@@ -39,8 +39,8 @@ After test w m = onMove (test w m) false (λ sent v t. test v (tried t m))
 -- a move takes the member out of one set and puts it into another
 pub moved-many : (test : SetName → Member → Bool) (p : Partner) (w : SetName) (mv : Move) (x : Six)
     → hasMember p (setIn w x) ≡ true
-    → many test (moved p w mv x) + once (test w (memberFor p (setIn w x)))
-    ≡ many test x + once (After test w (memberFor p (setIn w x)) mv)
+    → many test (moved p w mv x) + asBit (test w (memberFor p (setIn w x)))
+    ≡ many test x + asBit (After test w (memberFor p (setIn w x)) mv)
 unfolding moved
 moved-many test p w mv x is = by mv
   where
@@ -50,13 +50,13 @@ moved-many test p w mv x is = by mv
     rest : Six
     rest = withSet w (without p (setIn w x)) x
 
-    left : many test rest + once (test w m) ≡ many test x
+    left : many test rest + asBit (test w m) ≡ many test x
     left =
         let store = many-set test w (without p (setIn w x)) x in
         let taken = countIn-without (test w) p (setIn w x) is in
         omega arith
 
-    by : (mv : Move) → many test (moved p w mv x) + once (test w m) ≡ many test x + once (After test w m mv)
+    by : (mv : Move) → many test (moved p w mv x) + asBit (test w m) ≡ many test x + asBit (After test w m mv)
     by moving.Stays = refl
     by moving.Leaves =
         let out = left in

@@ -28,7 +28,8 @@ use Rattle.sets.specs.SixSets.{setIn, sixIn, unpacked, setReady}
 use Rattle.sets.specs.SetSteps.{newMember}
 use Rattle.sets.specs.OnSets.{onSets}
 use Rattle.sets.specs.SetRuns.{setRun}
-use Rattle.sets.specs.SameSets.{nameOf, SameState, HeldAs, SameAnswer, SameReport}
+use Rattle.sets.specs.SameSets.{nameOf, SameState, SameAnswer}
+use Rattle.sets.specs.SameWords.{HeldAs, SameReport}
 use Rattle.sets.specs.declared.names.SetName.{SetName}
 use Rattle.sets.specs.declared.state.SetState.{SetState}
 use Rattle.sets.proofs.Counting.{within-counted, many-in}

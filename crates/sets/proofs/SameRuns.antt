@@ -9,7 +9,8 @@ use lib.ListN.{length, take, drop}
 use lib.Seq.{length-take-le}
 use Rattle.wire.specs.Refusals.{accepted, notSound, logTooLong}
 use Rattle.wire.proofs.Tests.{true-false}
-use Rattle.record.specs.Takes.{longestLog, taken, onTaken, TakenOk}
+use Rattle.record.specs.Takes.{longestLog, taken, onTaken}
+use Rattle.record.specs.TakeWords.{TakenOk}
 use Rattle.record.proofs.Takes.{taken-ok}
 use Rattle.record.specs.declared.take.Taken.{Taken}
 use Rattle.record.specs.declared.take.Taken.the-variants.{Whole, Stopped, Refused}
@@ -22,11 +23,12 @@ use Rattle.unit.specs.declared.answer.Action.{Action}
 use Rattle.unit.specs.declared.run.Tally.{Tally}
 use Rattle.unit.specs.declared.run.Totals.{Totals}
 use Rattle.unit.specs.declared.state.State.{State}
-use Rattle.unit.proofs.Agreed.Records.{totalOf-counts}
+use Rattle.unit.proofs.Again.Records.{totalOf-counts}
 use Rattle.sets.specs.SixSets.{unpacked, setReady}
 use Rattle.sets.specs.OnSets.{onSets}
 use Rattle.sets.specs.SetRuns.{setFresh, setCounted, setEnded, setGo, setRunRefused, setRun}
-use Rattle.sets.specs.SameSets.{SameState, SameReport}
+use Rattle.sets.specs.SameSets.{SameState}
+use Rattle.sets.specs.SameWords.{SameReport}
 use Rattle.sets.specs.declared.run.SetTally.{SetTally}
 use Rattle.sets.specs.declared.state.SetState.{SetState}
 use Rattle.sets.proofs.SameAnswers.{Alike, same-answer, alike-next}

@@ -20,7 +20,9 @@ use Rattle.place.specs.declared.place.Direction.the-variants.{Outgoing, Incomin
 use Rattle.place.specs.declared.place.Holding.{Holding}
 use Rattle.place.specs.declared.place.Holding.the-variants.{Free, Held}
 use Rattle.place.specs.declared.place.Place.{Place}
-use Rattle.unit.specs.Kept.{weigh, once, here}
+use Rattle.unit.specs.Kept.{here}
+use Rattle.wire.specs.Sums.{sum}
+use Rattle.wire.specs.Bytes.{asBit}
 use Rattle.unit.proofs.Weights.{weigh-at}
 use Rattle.sets.specs.Members.{isFor, hasMember, memberFor}
 use Rattle.sets.specs.SixSets.{Six, setIn, size, whereabouts}
@@ -103,7 +105,7 @@ alike-same w m v n ok =
 
 module _ (p : Partner) (ps : List Place) (x : Six) (same : Same ps x) where
   -- a partner with no place stands nowhere
-  pub nowhere-none : weigh (here (holds p)) ps ≡ 0 → whereabouts p x ≡ Nowhere
+  pub nowhere-none : sum (here (holds p)) ps ≡ 0 → whereabouts p x ≡ Nowhere
   nowhere-none none = by (whereabouts p x) refl (where-ok p x)
     where
       by : (o : Whereabouts) → whereabouts p x ≡ o → WhereOk p x o → whereabouts p x ≡ Nowhere
@@ -115,7 +117,7 @@ module _ (p : Partner) (ps : List Place) (x : Six) (same : Same ps x) where
       by Nowhere is ok = is
 
   -- one with a place stands in the set of its phase, as its member
-  module _ (one : weigh (here (holds p)) ps ≤ 1) (i : ℕ) (below : i < length ps) (d : Direction) (ph : Phase)
+  module _ (one : sum (here (holds p)) ps ≤ 1) (i : ℕ) (below : i < length ps) (d : Direction) (ph : Phase)
       (at : getD ps i vacant .holding ≡ Held d ph p) where
     -- the member that the place holds
     abbrev there : Member
@@ -130,7 +132,7 @@ module _ (p : Partner) (ps : List Place) (x : Six) (same : Same ps x) where
     found v w m = isFor p m && alike w m v (memberFor p (setIn v x))
 
     -- whoever is the partner is one or the other
-    split : (a b : Bool) → once (a && not b) + once (a && b) ≡ once a
+    split : (a b : Bool) → asBit (a && not b) + asBit (a && b) ≡ asBit a
     split true true = refl
     split true false = refl
     split false b = refl
@@ -142,7 +144,7 @@ module _ (p : Partner) (ps : List Place) (x : Six) (same : Same ps x) where
         let m = memberFor p (setIn v x) in
         let sum = many-both (others v) (found v) (λ w. isFor p) (λ w m. split (isFor p m) (alike w m v (memberFor p (setIn v x)))) x in
         let taken = countIn-without (found v v) p (setIn v x) is in
-        let itself : once (found v v m) ≡ 1 = ap once (and-both _ _ (member-is p (setIn v x) is) (alike-itself v m)) in
+        let itself : asBit (found v v m) ≡ 1 = ap asBit (and-both _ _ (member-is p (setIn v x) is) (alike-itself v m)) in
         let some = many-in (found v) v x in
         omega arith
 
@@ -154,7 +156,7 @@ module _ (p : Partner) (ps : List Place) (x : Six) (same : Same ps x) where
         let least = weigh-at (here (placePasses (others v))) ps i below in
         by (placePasses (others v) (getD ps i vacant)) (omega arith)
       where
-        by : (b : Bool) → once b ≡ 0 → b ≡ false
+        by : (b : Bool) → asBit b ≡ 0 → b ≡ false
         by true h = absurd (omega arith)
         by false h = refl
 
@@ -189,7 +191,7 @@ module _ (p : Partner) (ps : List Place) (x : Six) (same : Same ps x) where
             let held = same (λ w. isFor p) in
             let least = weigh-at (here (holds p)) ps i below in
             let itself : here (holds p) (getD ps i vacant) ≡ 1 =
-            ap (λ k. once (holdsIn p k)) at ∙ ap once (same-refl p) in
+            ap (λ k. asBit (holdsIn p k)) at ∙ ap asBit (same-refl p) in
             absurd (omega arith)
 
     -- so it is a member there
@@ -201,15 +203,15 @@ module _ (p : Partner) (ps : List Place) (x : Six) (same : Same ps x) where
     member-there = sym (found-same (nameOf d ph) is-within .1)
 
 -- places that are held, and places that are free
-held-free : (ps : List Place) → weigh (here (placePasses (λ w m. true))) ps + weigh (here isFree) ps ≡ length ps
-unfolding weigh
+held-free : (ps : List Place) → sum (here (placePasses (λ w m. true))) ps + sum (here isFree) ps ≡ length ps
+unfolding sum
 held-free [] = refl
 held-free (p ∷ ps) = by (p .holding) (held-free ps)
   where
     by : (k : Holding)
-        → weigh (here (placePasses (λ w m. true))) ps + weigh (here isFree) ps ≡ length ps
-        → (here (placePasses (λ w m. true)) (record { holding = k }) + weigh (here (placePasses (λ w m. true))) ps)
-        + (here isFree (record { holding = k }) + weigh (here isFree) ps)
+        → sum (here (placePasses (λ w m. true))) ps + sum (here isFree) ps ≡ length ps
+        → (here (placePasses (λ w m. true)) (record { holding = k }) + sum (here (placePasses (λ w m. true))) ps)
+        + (here isFree (record { holding = k }) + sum (here isFree) ps)
         ≡ length (p ∷ ps)
     by Free rest = omega arith
     by (Held d ph q) rest = omega arith
@@ -225,11 +227,11 @@ room-left ps x i same below free =
     let all = same (λ w m. true) in
     let members = many-size x in
     let least = weigh-at (here isFree) ps i below in
-    let one : here isFree (getD ps i vacant) ≡ 1 = ap once free in
+    let one : here isFree (getD ps i vacant) ≡ 1 = ap asBit free in
     omega arith
 
 -- and none where no place is
-pub no-room : (ps : List Place) (x : Six) → Same ps x → weigh (here isFree) ps ≡ 0 → size x ≡ length ps
+pub no-room : (ps : List Place) (x : Six) → Same ps x → sum (here isFree) ps ≡ 0 → size x ≡ length ps
 no-room ps x same full =
     let sum = held-free ps in
     let all = same (λ w m. true) in

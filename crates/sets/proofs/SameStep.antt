@@ -1,5 +1,6 @@
 -- The two engines give the same answer to every event, from states that mean the same. Here, and nowhere else in this crate, the box's step
--- is unfolded: it is laid beside the other, kind by kind.
+-- is unfolded: it is laid beside the other, kind by kind; an order, a call and
+-- another event that names a partner by what the search found (ByFound).
 -- Defines: beside, SameOutcome.
 -- Proves: held-as, same-step.
 use mathlib.Core.Path.{_≡_, refl, sym, ap, ap₂, _∙_, subst}
@@ -33,12 +34,14 @@ use Rattle.place.specs.declared.place.Place.{Place}
 use Rattle.place.specs.declared.turn.Turn.{Turn}
 use Rattle.place.specs.declared.turn.Closing.{Closing}
 use Rattle.place.specs.declared.turn.Closing.the-variants.{Every}
-use Rattle.unit.specs.Kept.{count, weigh, once, here}
+use Rattle.unit.specs.Kept.{count, here}
+use Rattle.wire.specs.Sums.{sum}
+use Rattle.wire.specs.Bytes.{asBit}
 use Rattle.unit.specs.Lasts.{meant, recalled}
 use Rattle.unit.specs.States.{placeCount, seek, standing}
-use Rattle.unit.specs.Steps.{Outcome, refusedAt, refused, act, closed, closingActions, inForce, holeTaken, displaced, admitted}
-use Rattle.unit.specs.Steps.{done, withTrain, withMarks, markManual, markMode, markHole, closePlaces, orderedAt, calledAt, turned}
-use Rattle.unit.specs.Steps.{namedAt, step}
+use Rattle.unit.specs.Steps.{Outcome, refusedAt, refused, act, closed, closingActions, inForce, holeTaken, displaced}
+use Rattle.unit.specs.Steps.{done, withTrain, withMarks, markManual, markMode, markHole, closePlaces, orderedAt, calledAt, step}
+use Rattle.unit.specs.Searching.{admitted, turned, namedAt}
 use Rattle.unit.specs.declared.answer.Action.{Action}
 use Rattle.unit.specs.declared.search.Found.{Found}
 use Rattle.unit.specs.declared.search.Found.the-variants.{At, Vacant, Full}
@@ -48,6 +51,7 @@ use Rattle.unit.specs.declared.state.Marks.{Marks}
 use Rattle.unit.proofs.Counts.{count-append}
 use Rattle.unit.proofs.Facts.{Facts, place-at}
 use Rattle.unit.proofs.Searches.{FoundOk, seek-ok}
+use Rattle.unit.proofs.ByFound.{order-found, call-found, named-found}
 use Rattle.unit.proofs.Weights.{weigh-set, length-closed, closed-at}
 use Rattle.sets.specs.Members.{mostMembers, hasMember, memberFor}
 use Rattle.sets.specs.SixSets.{Six, Sets, setIn, size, phaseIn, onWhereabouts}
@@ -167,8 +171,8 @@ module _ (s : State) (f : Facts s) (x : Six) (same : Same (s .places) x) where
       let none = free test in
       let before = alike test in
       let more = member-many test w (newMember d (tries ph) p) y in
-      let one : once (test (nameOf d ph) (newMember d (tries ph) p)) ≡ once (test w (newMember d (tries ph) p)) =
-      ap (λ v. once (test v (newMember d (tries ph) p))) name in
+      let one : asBit (test (nameOf d ph) (newMember d (tries ph) p)) ≡ asBit (test w (newMember d (tries ph) p)) =
+      ap (λ v. asBit (test v (newMember d (tries ph) p))) name in
       omega arith
 
   -- 5 and 8, or the newcomer is taken in
@@ -294,13 +298,13 @@ module _ (s : State) (f : Facts s) (x : Six) (same : Same (s .places) x) where
           let store = weigh-set passes (s .places) i (placeAfter (getD (s .places) i vacant) t) below in
           let before = same test in
           let moves = moved-many test p (nameOf d ph) mv x within-it in
-          let old : passes (getD (s .places) i vacant) ≡ once (test (nameOf d ph) (memberFor p (setIn (nameOf d ph) x))) =
-          ap passes place-is ∙ ap (λ m. once (test (nameOf d ph) m)) (sym member-it) in
+          let old : passes (getD (s .places) i vacant) ≡ asBit (test (nameOf d ph) (memberFor p (setIn (nameOf d ph) x))) =
+          ap passes place-is ∙ ap (λ m. asBit (test (nameOf d ph) m)) (sym member-it) in
           let new : passes (placeAfter (getD (s .places) i vacant) t)
-          ≡ once (After test (nameOf d ph) (memberFor p (setIn (nameOf d ph) x)) mv) =
+          ≡ asBit (After test (nameOf d ph) (memberFor p (setIn (nameOf d ph) x)) mv) =
           ap (λ q. passes (placeAfter q t)) place-is
-          ∙ ap once (match .after test)
-          ∙ ap (λ m. once (After test (nameOf d ph) m mv)) (sym member-it) in
+          ∙ ap asBit (match .after test)
+          ∙ ap (λ m. asBit (After test (nameOf d ph) m mv)) (sym member-it) in
           omega arith
 
   -- an event that names a partner
@@ -308,7 +312,7 @@ module _ (s : State) (f : Facts s) (x : Six) (same : Same (s .places) x) where
   unfolding setNamed
   named-same p e = by (seek p (s .places)) (seek-ok p (s .places))
     where
-      none-same : weigh (here (holds p)) (s .places) ≡ 0 → SameOutcome (refused refusal.hasNone s) (setNamed z p e)
+      none-same : sum (here (holds p)) (s .places) ≡ 0 → SameOutcome (refused refusal.hasNone s) (setNamed z p e)
       none-same none =
           subst (λ o. SameOutcome (refused refusal.hasNone s) (onWhereabouts o
           (λ w. setMoved z p w (moveOf (s .limits) e w (memberFor p (setIn w x)))) (setRefused refusal.hasNone z)))
@@ -349,13 +353,15 @@ module _ (s : State) (f : Facts s) (x : Six) (same : Same (s .places) x) where
       (λ other. refusal-same refusal.notTaken placeCount 0)
   same-step (Order p accepting cause) =
       let q = meant (s .last) p in
-      same-cond (inForce cause (s .train) (s .marks)) _ _ _ _
+      subst (λ o. SameOutcome o (setStep z (Order p accepting cause))) (sym (order-found s p accepting cause))
+      (same-cond (inForce cause (s .train) (s .marks)) _ _ _ _
       (λ in-force.
       same-cond (reserved q) _ _ _ _ (λ unknown. refusal-same refusal.noneKnown placeCount 0)
       (λ known. admitted-same q (orderedAt s q accepting cause) (setJoined z q accepting cause) (order-same q accepting cause)))
-      (λ other. refusal-same refusal.notInForce placeCount 0)
+      (λ other. refusal-same refusal.notInForce placeCount 0))
   same-step EndAll = ended-same (s .train)
   same-step (Call p) =
-      same-cond (isRbc p) _ _ _ _ (λ rbc. admitted-same p (calledAt s p) (setReceived z p) (call-same p))
-      (λ riu. refusal-same refusal.callFromRiu placeCount 0)
-  same-step (Named p e) = named-same p e
+      subst (λ o. SameOutcome o (setStep z (Call p))) (sym (call-found s p))
+      (same-cond (isRbc p) _ _ _ _ (λ rbc. admitted-same p (calledAt s p) (setReceived z p) (call-same p))
+      (λ riu. refusal-same refusal.callFromRiu placeCount 0))
+  same-step (Named p e) = subst (λ o. SameOutcome o (setNamed z p e)) (sym (named-found s p e)) (named-same p e)

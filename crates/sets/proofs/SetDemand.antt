@@ -22,7 +22,9 @@ use Rattle.place.specs.declared.place.Direction.the-variants.{Outgoing, Incomin
 use Rattle.place.specs.declared.place.Holding.{Holding}
 use Rattle.place.specs.declared.place.Holding.the-variants.{Free, Held}
 use Rattle.place.specs.declared.place.Place.{Place}
-use Rattle.unit.specs.Kept.{count, weigh, once, here}
+use Rattle.unit.specs.Kept.{count, here}
+use Rattle.wire.specs.Sums.{sum}
+use Rattle.wire.specs.Bytes.{asBit}
 use Rattle.unit.specs.OnRecords.{actionRoom, onRecord, trace}
 use Rattle.unit.specs.States.{some, coldStart}
 use Rattle.unit.specs.Steps.{Outcome}
@@ -31,11 +33,14 @@ use Rattle.unit.specs.declared.state.State.{State}
 use Rattle.unit.proofs.Counts.{count-all}
 use Rattle.unit.proofs.Searches.{first-none, none-some}
 use Rattle.unit.proofs.Weights.{weigh-same}
-use Rattle.history.specs.Histories.{after, sumOver, summed, one, isOrder, isCall, isLoss, orders, calls, losses, actions, isRelease}
+use Rattle.history.specs.Histories.{after, sumOver, summed, isOrder, isCall, isLoss, orders, calls, losses, actions, isRelease}
 use Rattle.history.specs.Histories.{placesHeld, eventNames, ofReading, timeoutFor, silent, timeouts, holdsPlace, waitingPhase}
 use Rattle.history.specs.Histories.{waitsAt, waits}
-use Rattle.history.specs.Histories.{releaseOf, perOrder, perCall, perLoss, timeoutsToRelease}
-use Rattle.history.specs.Reaching.{oneToTwo, reaching, sumsOf, counts}
+use Rattle.history.specs.Histories.{releaseOf}
+use Rattle.history.specs.PerEvent.{perOrder, perCall, perLoss, timeoutsToRelease}
+use Rattle.history.specs.Reaching.{reaching}
+use Rattle.history.specs.Sums.{sumsOf, counts}
+use Rattle.unit.specs.States.{oneToTwo}
 use Rattle.history.proofs.Bounds.{bound}
 use Rattle.history.proofs.Counted.{and-true}
 use Rattle.history.proofs.Reached.{reached, demand-reached}
@@ -104,10 +109,10 @@ same-sums f g each s b (bytes ∷ history) alike =
 module _ (s : State) (b : SetState) (history : List (List ℕ)) (alike : Alike s b) where
   -- accepted records of a kind
   same-accepted : (test : List ℕ → Bool)
-      → summed (λ s bytes o. one (test bytes && eqb (o .code) accepted)) s history ≡ setSum (setAccepted test) b history
+      → summed (λ s bytes o. asBit (test bytes && eqb (o .code) accepted)) s history ≡ setSum (setAccepted test) b history
   same-accepted test =
-      same-sums (λ s bytes o. one (test bytes && eqb (o .code) accepted)) (setAccepted test)
-      (λ s b bytes alike. ap (λ c. one (test bytes && eqb c accepted)) (answers s b bytes alike .code))
+      same-sums (λ s bytes o. asBit (test bytes && eqb (o .code) accepted)) (setAccepted test)
+      (λ s b bytes alike. ap (λ c. asBit (test bytes && eqb c accepted)) (answers s b bytes alike .code))
       s b history alike
 
   -- actions that pass a test
@@ -131,7 +136,7 @@ module _ (s : State) (b : SetState) (history : List (List ℕ)) (alike : Alike s
 -- so it is from the two cold starts
 module _ (l : Limits) (history : List (List ℕ)) where
   cold-accepted : (test : List ℕ → Bool)
-      → summed (λ s bytes o. one (test bytes && eqb (o .code) accepted)) (coldStart l .state) history
+      → summed (λ s bytes o. asBit (test bytes && eqb (o .code) accepted)) (coldStart l .state) history
       ≡ setSum (setAccepted test) (setStart l .state) history
   cold-accepted = same-accepted (coldStart l .state) (setStart l .state) history (cold-both l)
 
@@ -139,12 +144,12 @@ module _ (l : Limits) (history : List (List ℕ)) where
   cold-actions = same-actions (coldStart l .state) (setStart l .state) history (cold-both l)
 
 -- as many places held as members
-held-places : (ps : List Place) → placesHeld ps ≡ weigh (here (placePasses (λ w m. true))) ps
-unfolding placesHeld weigh
+held-places : (ps : List Place) → placesHeld ps ≡ sum (here (placePasses (λ w m. true))) ps
+unfolding placesHeld sum
 held-places [] = refl
 held-places (p ∷ ps) = ap₂ _+_ (by (p .holding)) (held-places ps)
   where
-    by : (k : Holding) → one (not (isFree (record { holding = k }))) ≡ here (placePasses (λ w m. true)) (record { holding = k })
+    by : (k : Holding) → asBit (not (isFree (record { holding = k }))) ≡ here (placePasses (λ w m. true)) (record { holding = k })
     by Free = refl
     by (Held d ph p) = refl
 
@@ -219,7 +224,7 @@ waiting-phase d (Ending t) = refl
 waits-at : (p : Partner) (k : Holding)
     → here (waitsAt p) (record { holding = k }) ≡ here (placePasses (waitingMember p)) (record { holding = k })
 waits-at p Free = refl
-waits-at p (Held d ph q) = ap (λ b. once (isFor p (newMember d 0 q) && b)) (waiting-phase d ph)
+waits-at p (Held d ph q) = ap (λ b. asBit (isFor p (newMember d 0 q) && b)) (waiting-phase d ph)
 
 -- one of a set of those that wait is counted
 waits-counted : (p : Partner) (ms : List Member) → hasMember p ms ≡ true → 1 ≤ countIn (λ m. isFor p m && true) ms
@@ -277,7 +282,7 @@ waits-same s b p same is = by (some (waitsAt p) (s .places)) refl
         let none = first-none (waitsAt p) (s .places) (none-some (waitsAt p) (s .places) (ap not h)) in
         let all = weigh-same (here (waitsAt p)) (here (placePasses (waitingMember p))) (λ q. waits-at p (q .holding)) (s .places) in
         let held = same .members (waitingMember p) in
-        let one = waits-many p b is in
+        let asBit = waits-many p b is in
         absurd (omega arith)
 
 -- a partner with no place is no member
@@ -293,7 +298,7 @@ absent-same s b p same none = by (isMember p b) refl
         let nobody = first-none (holds p) (s .places) (none-some (holds p) (s .places) (ap not none)) in
         let held = same .members (λ w. isFor p) in
         let all = many-everyone (isFor p) (sixIn b) in
-        let one = within-counted p (everyone (sixIn b)) is in
+        let asBit = within-counted p (everyone (sixIn b)) is in
         absurd (omega arith)
     by false is = refl
 

@@ -6,59 +6,33 @@ use mathlib.Core.List.{[], _∷_, map}
 use native.Mathlib.Omega.{arith}
 use Rattle.wire.specs.Blocks.{blocks}
 use Rattle.record.specs.Records.{reading}
-use Rattle.place.specs.declared.place.Direction.the-variants.{Outgoing, Incoming}
 use Rattle.unit.specs.Lasts.{recalled}
 use Rattle.history.specs.Histories.{timeouts}
 use Rattle.history.specs.Reaching.{rbc5, order5, timeout5}
 use Rattle.sets.specs.Members.{hasMember, memberFor, without, those, allOf, apart, membersOf, setOf, tidy}
 use Rattle.sets.specs.SixSets.{size, everyone, whereabouts, memberOk, membersOk, soundSets, unpacked, packedSets, tidySix}
-use Rattle.sets.specs.SixSets.{withSet, setReady, setCold, setStart}
+use Rattle.sets.specs.SixSets.{setReady, setCold, setStart}
 use Rattle.sets.specs.Moves.{moveOf}
 use Rattle.sets.specs.SetSteps.{closedSix, closingSent, setClosed, moved, setMoved, setNamed, setJoined, setOrdered, setReceived}
 use Rattle.sets.specs.SetSteps.{setCalled, setStep}
 use Rattle.sets.specs.OnSets.{applySets, onSets}
 use Rattle.sets.specs.SetHistories.{setAfter, isMember, setWaits, setSilent, setReleasesOf}
 use Rattle.sets.specs.SetExamples.{setLimits, setFirst, rbcRecord, setTold, setAnswers, oneSession, mixedSessions}
-use Rattle.sets.specs.SetExamples.{memberOf, inCalling, inIncoming, inOutgoing, inLost, setHolding, afterCount}
-use Rattle.sets.specs.declared.names.SetName.the-variants.{LostSessions}
+use Rattle.sets.specs.SetExamples.{unsoundStates, tookAll, to5}
 use Rattle.sets.proofs.SameAnswers.{cold-ready}
 use Rattle.sets.proofs.SetDemand.{history-ready, set-waiting, set-released-once}
 
 -- one session, from its order to its end: the number and the phase, the actions, and the six sets after it
 -- meaning
 pub shown-session : setAnswers setFirst oneSession
-    ≡ ((0 ∷ 0 ∷ [])
-    ∷ (21 ∷ 0 ∷ 0 ∷ 0 ∷ 5 ∷ [])
-    ∷ (0 ∷ 5 ∷ 1 ∷ 0 ∷ 0xFF ∷ 0xFF ∷ 0xFF ∷ 0xFF ∷ 0xFF ∷ [])
-    ∷ [])
-    ∷ ((0 ∷ 0 ∷ [])
-    ∷ (155 ∷ 0 ∷ 0 ∷ 0 ∷ 5 ∷ [])
-    ∷ (0xFF ∷ 0 ∷ 5 ∷ 1 ∷ 0 ∷ 0xFF ∷ 0xFF ∷ 0xFF ∷ 0xFF ∷ [])
-    ∷ [])
-    ∷ ((0 ∷ 0 ∷ [])
-    ∷ (159 ∷ 0 ∷ 0 ∷ 0 ∷ 5 ∷ [])
-    ∷ (0xFF ∷ 0xFF ∷ 0xFF ∷ 0 ∷ 5 ∷ 0 ∷ 0 ∷ 0xFF ∷ 0xFF ∷ [])
-    ∷ [])
-    ∷ ((0 ∷ 0 ∷ [])
-    ∷ (21 ∷ 0 ∷ 0 ∷ 0 ∷ 5 ∷ [])
-    ∷ (0xFF ∷ 0xFF ∷ 0xFF ∷ 0xFF ∷ 0 ∷ 5 ∷ 1 ∷ 0 ∷ 0xFF ∷ [])
-    ∷ [])
-    ∷ ((0 ∷ 0 ∷ [])
-    ∷ []
-    ∷ (0xFF ∷ 0xFF ∷ 0xFF ∷ 0 ∷ 5 ∷ 0 ∷ 0 ∷ 0xFF ∷ 0xFF ∷ [])
-    ∷ [])
-    ∷ ((0 ∷ 0 ∷ [])
-    ∷ (156 ∷ 0 ∷ 0 ∷ 0 ∷ 5 ∷ [])
-    ∷ (0xFF ∷ 0xFF ∷ 0xFF ∷ 0xFF ∷ 0xFF ∷ 0 ∷ 5 ∷ 1 ∷ 0 ∷ [])
-    ∷ [])
-    ∷ ((0 ∷ 0 ∷ [])
-    ∷ (22 ∷ 0 ∷ 0 ∷ 0 ∷ 5 ∷ [])
-    ∷ (0xFF ∷ 0xFF ∷ 0xFF ∷ 0xFF ∷ 0xFF ∷ [])
-    ∷ [])
-    ∷ ((6 ∷ 0 ∷ [])
-    ∷ []
-    ∷ (0xFF ∷ 0xFF ∷ 0xFF ∷ 0xFF ∷ 0xFF ∷ [])
-    ∷ [])
+    ≡ tookAll (to5 21) (0 ∷ 5 ∷ 1 ∷ 0 ∷ 0xFF ∷ 0xFF ∷ 0xFF ∷ 0xFF ∷ 0xFF ∷ [])
+    ∷ tookAll (to5 155) (0xFF ∷ 0 ∷ 5 ∷ 1 ∷ 0 ∷ 0xFF ∷ 0xFF ∷ 0xFF ∷ 0xFF ∷ [])
+    ∷ tookAll (to5 159) (0xFF ∷ 0xFF ∷ 0xFF ∷ 0 ∷ 5 ∷ 0 ∷ 0 ∷ 0xFF ∷ 0xFF ∷ [])
+    ∷ tookAll (to5 21) (0xFF ∷ 0xFF ∷ 0xFF ∷ 0xFF ∷ 0 ∷ 5 ∷ 1 ∷ 0 ∷ 0xFF ∷ [])
+    ∷ tookAll [] (0xFF ∷ 0xFF ∷ 0xFF ∷ 0 ∷ 5 ∷ 0 ∷ 0 ∷ 0xFF ∷ 0xFF ∷ [])
+    ∷ tookAll (to5 156) (0xFF ∷ 0xFF ∷ 0xFF ∷ 0xFF ∷ 0xFF ∷ 0 ∷ 5 ∷ 1 ∷ 0 ∷ [])
+    ∷ tookAll (to5 22) (0xFF ∷ 0xFF ∷ 0xFF ∷ 0xFF ∷ 0xFF ∷ [])
+    ∷ ((6 ∷ 0 ∷ []) ∷ [] ∷ (0xFF ∷ 0xFF ∷ 0xFF ∷ 0xFF ∷ 0xFF ∷ []) ∷ [])
     ∷ []
 unfolding setAnswers setTold onSets applySets setStep setOrdered setJoined setNamed setMoved moved moveOf setCalled setReceived setClosed
     closedSix closingSent whereabouts hasMember memberFor without those setReady tidySix tidy soundSets membersOk memberOk allOf apart
@@ -88,21 +62,7 @@ shown-displaced = refl
 -- this order, after a state that is sound: a partner in two sets, and twice in one; five members; an RIU incoming, and lost with that
 -- direction; four tries of three, none, and one in session; a call of the partner's in calling; RBC 1 after a count
 -- meaning
-pub shown-unsound : map setReady
-    (setHolding (withSet LostSessions (memberOf 0 2 3 Incoming ∷ []) (inCalling (memberOf 1 2 1 Outgoing ∷ [])))
-    ∷ setHolding (withSet LostSessions (memberOf 0 1 1 Outgoing ∷ []) (inCalling (memberOf 0 1 1 Outgoing ∷ [])))
-    ∷ setHolding (inLost (memberOf 0 1 1 Outgoing ∷ memberOf 0 1 2 Outgoing ∷ []))
-    ∷ setHolding
-    (withSet LostSessions (memberOf 0 4 1 Outgoing ∷ memberOf 0 5 1 Outgoing ∷ [])
-    (inCalling (memberOf 0 1 1 Outgoing ∷ memberOf 0 2 1 Outgoing ∷ memberOf 0 3 1 Outgoing ∷ [])))
-    ∷ setHolding (inIncoming (memberOf 1 1 0 Incoming ∷ []))
-    ∷ setHolding (inLost (memberOf 1 1 1 Incoming ∷ []))
-    ∷ setHolding (inCalling (memberOf 0 1 4 Outgoing ∷ []))
-    ∷ setHolding (inCalling (memberOf 0 1 0 Outgoing ∷ []))
-    ∷ setHolding (inOutgoing (memberOf 0 1 1 Outgoing ∷ []))
-    ∷ setHolding (inCalling (memberOf 0 1 1 Incoming ∷ []))
-    ∷ afterCount (memberOf 0 1 1 Outgoing)
-    ∷ [])
+pub shown-unsound : map setReady unsoundStates
     ≡ true ∷ false ∷ false ∷ false ∷ false ∷ false ∷ false ∷ false ∷ false ∷ false ∷ false ∷ []
 unfolding setReady tidySix tidy soundSets membersOk memberOk allOf apart everyone hasMember size unpacked packedSets membersOf setOf
 shown-unsound = refl

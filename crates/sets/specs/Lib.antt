@@ -8,3 +8,4 @@ pub mod SameSets
 pub mod SetHistories
 pub mod SetExamples
 pub mod Holding
+pub mod SameWords

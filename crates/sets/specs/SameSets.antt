@@ -1,25 +1,22 @@
 -- Request Q-7: "it and the place engine give the same refusal, sets, tries, other fields and collection of actions": the two engines side
 -- by side.
--- Defines: nameOf, placePasses, countIn, many, SameState, HeldAs, SameAnswer, SameReport, gather, setsOf, phaseFor, seatOf, seatsOf,
--- placesOf, stateOf.
+-- Defines: nameOf, placePasses, countIn, many, SameState, SameAnswer, gather, setsOf, phaseFor, seatOf, seatsOf, placesOf, stateOf.
 use Prim.Native.Nat.{ℕ, _+_, _-_}
 use mathlib.Core.Path.{_≡_}
 use mathlib.Core.Bool.{Bool, false}
 use mathlib.Core.List.{List, [], _∷_, _++_, map}
 use lib.ListN.{replicate}
-use Rattle.record.specs.declared.partner.Partner.{Partner}
 use Rattle.place.specs.Places.{tries, vacant, seat, onHolding}
 use Rattle.place.specs.declared.phase.Phase.{Phase}
 use Rattle.place.specs.declared.phase.Phase.the-variants.{Connecting, Contacting, Open, Lost, Ending}
 use Rattle.place.specs.declared.place.Direction.{Direction}
-use Rattle.place.specs.declared.place.Holding.{Holding}
-use Rattle.place.specs.declared.place.Holding.the-variants.{Free, Held}
 use Rattle.place.specs.declared.place.Place.{Place}
-use Rattle.unit.specs.Kept.{count, weigh, once, here}
+use Rattle.unit.specs.Kept.{count, here}
+use Rattle.wire.specs.Sums.{sum}
+use Rattle.wire.specs.Bytes.{asBit}
 use Rattle.unit.specs.States.{placeCount}
 use Rattle.unit.specs.Steps.{Outcome}
 use Rattle.unit.specs.declared.answer.Action.{Action}
-use Rattle.unit.specs.declared.run.Report.{Report}
 use Rattle.unit.specs.declared.state.State.{State}
 use Rattle.sets.specs.SixSets.{Six, Sets, setIn, withSet, size, unpacked, noSets}
 use Rattle.sets.specs.Moves.{sessionsOf}
@@ -28,7 +25,6 @@ use Rattle.sets.specs.declared.members.Member.{Member}
 use Rattle.sets.specs.declared.names.SetName.{SetName}
 use Rattle.sets.specs.declared.names.SetName.the-variants.{Calling, Contacted, IncomingSessions, OutgoingSessions, LostSessions}
 use Rattle.sets.specs.declared.names.SetName.the-variants.{TerminatingSessions}
-use Rattle.sets.specs.declared.run.SetReport.{SetReport}
 use Rattle.sets.specs.declared.state.SetState.{SetState}
 
 -- "Calling is Connecting, contacted Contacting, incoming and outgoing Open by direction, lost Lost, terminating Ending"
@@ -46,7 +42,7 @@ placePasses test place = onHolding false (λ d ph p. test (nameOf d ph) (newMemb
 -- how many members of a set pass a test, and how many of the six sets
 unfoldable pub countIn : (Member → Bool) → List Member → ℕ
 countIn test [] = 0
-countIn test (m ∷ ms) = once (test m) + countIn test ms
+countIn test (m ∷ ms) = asBit (test m) + countIn test ms
 
 unfoldable pub many : (SetName → Member → Bool) → Six → ℕ
 many test x =
@@ -62,13 +58,8 @@ pub record SameState (s : State) (z : Sets) : Type 0 where
   pub limits : s .limits ≡ z .limits
   pub train : s .train ≡ z .train
   pub marks : s .marks ≡ z .marks
-  pub members : (test : SetName → Member → Bool) → weigh (here (placePasses test)) (s .places) ≡ many test (z .six)
+  pub members : (test : SetName → Member → Bool) → sum (here (placePasses test)) (s .places) ≡ many test (z .six)
   pub last : s .last ≡ z .last
-
--- what a place holds is this member of the set of this name
-abbrev pub HeldAs : Partner → SetName → Member → Holding → Type 0
-HeldAs p w m Free = ⊥
-HeldAs p w m (Held d ph q) = (q ≡ p) × (nameOf d ph ≡ w) × (newMember d (tries ph) q ≡ m)
 
 -- two answers are the same: refusal, state, how many actions pass any test, and the phase of Q-6
 pub record SameAnswer (o : Outcome) (a : SetOutcome SetState) : Type 0 where
@@ -76,16 +67,6 @@ pub record SameAnswer (o : Outcome) (a : SetOutcome SetState) : Type 0 where
   pub state : SameState (o .state) (unpacked (a .state))
   pub actions : (test : Action → Bool) → count test (o .actions) ≡ count test (a .actions)
   pub phase : o .standing .phase ≡ a .phase
-
--- two runs are the same: refusal, stop, state, offset reached, records read and refused, and the totals
-pub record SameReport (r : Report) (q : SetReport) : Type 0 where
-  pub code : r .code ≡ q .code
-  pub stop : r .stop ≡ q .stop
-  pub state : SameState (r .tally .state) (unpacked (q .tally .state))
-  pub offset : r .tally .offset ≡ q .tally .offset
-  pub read : r .tally .read ≡ q .tally .read
-  pub refused : r .tally .refused ≡ q .tally .refused
-  pub totals : r .tally .totals ≡ q .tally .totals
 
 -- the six sets of these places, and the state of the one engine that means a state of the other
 unfoldable pub gather : List Place → Six

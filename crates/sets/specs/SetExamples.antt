@@ -1,11 +1,14 @@
--- Only laws use what stands here: histories of the engine of sets, for computed instances.
+-- Examples only: nobody has to believe what stands here.
+-- Histories of the engine of sets, for computed instances.
 -- Defines: setLimits, setFirst, rbcRecord, riuRecord, setTold, sixTold, setAnswers, oneSession, mixedSessions, memberOf, inCalling,
--- inIncoming, inOutgoing, inLost, setHolding, afterCount.
+-- inIncoming, inOutgoing, inLost, setHolding, afterCount, unsoundStates, tookAll, to5.
 use Prim.Native.Nat.{ℕ}
 use mathlib.Core.List.{List, [], _∷_, _++_}
 use Rattle.place.specs.Places.{directionNumber}
 use Rattle.place.specs.declared.limits.Limits.{Limits}
+use Rattle.unit.specs.States.{oneToTwo}
 use Rattle.place.specs.declared.place.Direction.{Direction}
+use Rattle.place.specs.declared.place.Direction.the-variants.{Outgoing, Incoming}
 use Rattle.unit.specs.OnRecords.{actionRoom, actionBytes}
 use Rattle.sets.specs.Members.{noMember, setOf}
 use Rattle.sets.specs.SixSets.{Six, withSet, unpackedSix, packedSets, noSets, coldSets, setStart}
@@ -17,7 +20,7 @@ use Rattle.sets.specs.declared.state.SetState.{SetState}
 
 -- X 1 to 2, three tries
 abbrev pub setLimits : Limits
-setLimits = record { lowest = 1; highest = 2; tries = 3 }
+setLimits = oneToTwo 3
 
 abbrev pub setFirst : SetState
 setFirst = setStart setLimits .state
@@ -117,3 +120,30 @@ afterCount m =
           };
       last = coldSets setLimits .last;
     }
+
+-- a state that is sound, and then: a partner in two sets, and twice in one; five members; an RIU incoming, and lost with that direction;
+-- four tries of three, none, and one in session; a call of the partner's in calling; RBC 1 after a count
+abbrev pub unsoundStates : List SetState
+unsoundStates =
+    setHolding (withSet LostSessions (memberOf 0 2 3 Incoming ∷ []) (inCalling (memberOf 1 2 1 Outgoing ∷ [])))
+    ∷ setHolding (withSet LostSessions (memberOf 0 1 1 Outgoing ∷ []) (inCalling (memberOf 0 1 1 Outgoing ∷ [])))
+    ∷ setHolding (inLost (memberOf 0 1 1 Outgoing ∷ memberOf 0 1 2 Outgoing ∷ []))
+    ∷ setHolding
+    (withSet LostSessions (memberOf 0 4 1 Outgoing ∷ memberOf 0 5 1 Outgoing ∷ [])
+    (inCalling (memberOf 0 1 1 Outgoing ∷ memberOf 0 2 1 Outgoing ∷ memberOf 0 3 1 Outgoing ∷ [])))
+    ∷ setHolding (inIncoming (memberOf 1 1 0 Incoming ∷ []))
+    ∷ setHolding (inLost (memberOf 1 1 1 Incoming ∷ []))
+    ∷ setHolding (inCalling (memberOf 0 1 4 Outgoing ∷ []))
+    ∷ setHolding (inCalling (memberOf 0 1 0 Outgoing ∷ []))
+    ∷ setHolding (inOutgoing (memberOf 0 1 1 Outgoing ∷ []))
+    ∷ setHolding (inCalling (memberOf 0 1 1 Incoming ∷ []))
+    ∷ afterCount (memberOf 0 1 1 Outgoing)
+    ∷ []
+
+-- an answer with number 0 and phase 0, these actions, and the six sets after it
+abbrev pub tookAll : List ℕ → List ℕ → List (List ℕ)
+tookAll sent sets = (0 ∷ 0 ∷ []) ∷ sent ∷ sets ∷ []
+
+-- an action with this number, for RBC 5
+abbrev pub to5 : ℕ → List ℕ
+to5 number = number ∷ 0 ∷ 0 ∷ 0 ∷ 5 ∷ []

@@ -1,3 +1,4 @@
+-- Cross-checks only: nobody has to believe what stands here.
 -- Request Q-7: histories of the engine of sets, and what demand 3 counts in them, from this engine's own steps.
 -- Defines: setAfter, setSum, setAccepted, setOrders, setCalls, setLosses, setActions, setReleases, membersHeld, isMember, setWaits,
 -- setNames, setSilent, setReleasesOf, setSums.
@@ -11,8 +12,10 @@ use Rattle.record.specs.Records.{reading}
 use Rattle.record.specs.declared.partner.Partner.{Partner}
 use Rattle.unit.specs.Kept.{count}
 use Rattle.unit.specs.OnRecords.{actionRoom}
-use Rattle.history.specs.Histories.{one, isOrder, isCall, isLoss, isRelease, releaseOf, eventNames, ofReading, timeoutFor}
-use Rattle.history.specs.Reaching.{Sums, oneToTwo}
+use Rattle.history.specs.Histories.{isOrder, isCall, isLoss, isRelease, releaseOf, eventNames, ofReading, timeoutFor}
+use Rattle.wire.specs.Bytes.{asBit}
+use Rattle.history.specs.Sums.{Sums}
+use Rattle.unit.specs.States.{oneToTwo}
 use Rattle.sets.specs.Members.{hasMember}
 use Rattle.sets.specs.SixSets.{size, everyone, sixIn, setStart}
 use Rattle.sets.specs.SetSteps.{SetOutcome}
@@ -31,7 +34,7 @@ setSum f b (bytes ∷ history) = f b bytes (onSets b bytes actionRoom) + setSum 
 
 -- the accepted orders, calls 38 and losses of a history
 abbrev pub setAccepted : (List ℕ → Bool) → SetState → List ℕ → SetOutcome SetState → ℕ
-setAccepted test b bytes o = one (test bytes && eqb (o .code) accepted)
+setAccepted test b bytes o = asBit (test bytes && eqb (o .code) accepted)
 
 abbrev pub setOrders : SetState → List (List ℕ) → ℕ
 setOrders = setSum (setAccepted isOrder)

@@ -8,6 +8,7 @@ use native.Mathlib.Omega.{arith}
 use lib.Dec.{eqb}
 use lib.ListN.{length}
 use borrow.Author.Tests.{eqb-true, eqb-false}
+use borrow.Table.Steps.{cases}
 use Rattle.wire.proofs.Tests.{true-false}
 use Rattle.record.specs.Partners.{samePartner}
 use Rattle.record.specs.declared.partner.Partner.{Partner}
@@ -17,7 +18,9 @@ use Rattle.place.specs.declared.place.Holding.{Holding}
 use Rattle.place.specs.declared.place.Holding.the-variants.{Free, Held}
 use Rattle.place.specs.declared.place.Place.{Place}
 use Rattle.unit.specs.Concerns.{takesIn, placeOf}
-use Rattle.unit.specs.Kept.{once, here, count, weigh}
+use Rattle.unit.specs.Kept.{here, count}
+use Rattle.wire.specs.Bytes.{asBit}
+use Rattle.wire.specs.Sums.{sum}
 use Rattle.unit.specs.Standings.{Concern, nobody, orderTo, callOf, naming}
 use Rattle.unit.specs.States.{placeCount}
 use Rattle.unit.specs.declared.answer.Action.{Action}
@@ -89,18 +92,16 @@ newcomer-kept : (c : Concern) (q : Partner) (x : Place) (before after : List Pla
     → holds p (placeAt before j) ≡ true
     → holds p (placeAt after i) ≡ true
     → holds p (placeAt before i) ≡ true
-newcomer-kept c q x before after p i j own changed had has = by (eqb i (changed .at)) refl
-  where
-    by : (b : Bool) → eqb i (changed .at) ≡ b → holds p (placeAt before i) ≡ true
-    by true is =
-        let at = eqb-true i (changed .at) is in
-        let new : holds p x ≡ true = sym (ap (holds p) (changed .seated)) ∙ sym (ap (λ k. holds p (placeAt after k)) at) ∙ has in
-        let some = holds-weigh p before j had in
-        let none : weigh (here (holds p)) before ≡ 0 =
-        ap (λ r. weigh (here (holds r)) before) (same-eq p q (own new)) ∙ changed .absent in
-        absurd (omega arith)
-    by false other =
-        effect-kept c (placeAt before i) (placeAt after i) p (changed .others i (eqb-false i (changed .at) other)) has
+newcomer-kept c q x before after p i j own changed had has =
+    cases (eqb i (changed .at))
+    (λ is.
+    let at = eqb-true i (changed .at) is in
+    let new : holds p x ≡ true = sym (ap (holds p) (changed .seated)) ∙ sym (ap (λ k. holds p (placeAt after k)) at) ∙ has in
+    let some = holds-weigh p before j had in
+    let none : sum (here (holds p)) before ≡ 0 =
+    ap (λ r. sum (here (holds r)) before) (same-eq p q (own new)) ∙ changed .absent in
+    absurd (omega arith))
+    (λ other. effect-kept c (placeAt before i) (placeAt after i) p (changed .others i (eqb-false i (changed .at) other)) has)
 
 -- how many of those that pass a test pass another
 pub count-kept : (u t : Action → Bool) (acts : List Action) → count t (kept u acts) ≡ count (λ a. u a && t a) acts
@@ -110,13 +111,13 @@ count-kept u t (a ∷ acts) = by (u a) (count-kept u t acts)
   where
     by : (b : Bool)
         → count t (kept u acts) ≡ count (λ a. u a && t a) acts
-        → count t (cond b (a ∷ kept u acts) (kept u acts)) ≡ once (b && t a) + count (λ a. u a && t a) acts
-    by true rest = ap (λ n. once (t a) + n) rest
+        → count t (cond b (a ∷ kept u acts) (kept u acts)) ≡ asBit (b && t a) + count (λ a. u a && t a) acts
+    by true rest = ap (λ n. asBit (t a) + n) rest
     by false rest = omega arith
 
 -- two tests of which each action passes one where it passes a third
 pub count-plus : (t u v : Action → Bool)
-    → ((a : Action) → once (t a) + once (u a) ≡ once (v a))
+    → ((a : Action) → asBit (t a) + asBit (u a) ≡ asBit (v a))
     → (acts : List Action)
     → count t acts + count u acts ≡ count v acts
 unfolding count
@@ -175,26 +176,26 @@ module _ (c : Concern) (before after : List Place) (is : List ℕ) (step : Moved
       (place-waiting i (mine-place waits (placeAt before i) p (partner-kept p i j had has) mine))
       (holds-held p (placeAt after i) has)))
 
-  same-test : (a b : Bool) → (a ≡ true → b ≡ true) → (b ≡ true → a ≡ true) → once a ≡ once b
-  same-test true b up down = sym (ap once (up refl))
+  same-test : (a b : Bool) → (a ≡ true → b ≡ true) → (b ≡ true → a ≡ true) → asBit a ≡ asBit b
+  same-test true b up down = sym (ap asBit (up refl))
   same-test false true up down = true-false false (down refl) refl
   same-test false false up down = refl
 
   -- those that wait have as many places as there are numbers before the step
-  pub waits-before : weigh (here (placeOf waits)) before ≡ length is
+  pub waits-before : sum (here (placeOf waits)) before ≡ length is
   waits-before =
       weigh-sum (here (placeOf waits)) before ∙ ap (λ n. sumTo n (λ i. here (placeOf waits) (placeAt before i))) (step .four)
-      ∙ sumTo-same (λ i. here (placeOf waits) (placeAt before i)) (λ i. once (among i is)) placeCount
+      ∙ sumTo-same (λ i. here (placeOf waits) (placeAt before i)) (λ i. asBit (among i is)) placeCount
       (λ i below. same-test (placeOf waits (placeAt before i)) (among i is) (place-waiting i) (waiting-place i))
       ∙ sumTo-row placeCount is (step .apart)
       (λ i one. subst (λ n. i < n) (step .four) (just-below before i (each-fresh c before after is step i one)))
 
   -- and after it, those that still have theirs
-  pub waits-after : weigh (here (placeOf waits)) after ≡ length (stayers c before after is step)
+  pub waits-after : sum (here (placeOf waits)) after ≡ length (stayers c before after is step)
   waits-after =
       let still = stayers c before after is step in
       weigh-sum (here (placeOf waits)) after ∙ ap (λ n. sumTo n (λ i. here (placeOf waits) (placeAt after i))) (step .still-four)
-      ∙ sumTo-same (λ i. here (placeOf waits) (placeAt after i)) (λ i. once (among i still)) placeCount
+      ∙ sumTo-same (λ i. here (placeOf waits) (placeAt after i)) (λ i. asBit (among i still)) placeCount
       (λ i below. same-test (placeOf waits (placeAt after i)) (among i still) (place-still i) (still-place i))
       ∙ sumTo-row placeCount still (distinct-kept (λ i. not (isFree (placeAt after i))) is (step .apart))
       (λ i one.
@@ -205,7 +206,7 @@ module _ (c : Concern) (before after : List Place) (is : List ℕ) (step : Moved
   pub newcomer-waits : takesIn waits c ≡ false
   newcomer-waits = by c (step .changed)
     where
-      none : (q : Partner) → weigh (here (holds q)) before ≡ 0 → waits q ≡ false
+      none : (q : Partner) → sum (here (holds q)) before ≡ 0 → waits q ≡ false
       none q absent =
           fails-then (waits q)
           (λ mine.

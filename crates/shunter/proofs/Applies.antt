@@ -1,13 +1,15 @@
 -- The step on a record, by what the code's tests showed.
 -- Proves: sound-number, applied-unruled, applied-count, applied-eleven, applied-on.
 use mathlib.Core.Path.{_≡_, refl, sym, ap, ap₂, subst, _∙_}
-use mathlib.Core.Bool.{Bool, true, false, cond, _&&_}
+use mathlib.Core.Bool.{true, false, cond, _&&_}
 use mathlib.Core.List.{List}
 use mathlib.Core.Logic.{⊎-elim}
 use Prim.Native.Nat.{ℕ, _≤_}
 use native.Mathlib.Omega.{arith}
 use lib.ListN.{length}
-use Rattle.record.specs.Records.{reading, readingNumber}
+use borrow.Table.Steps.{cases}
+use Rattle.record.specs.Records.{reading}
+use Rattle.record.specs.Ranges.{readingNumber}
 use Rattle.record.specs.declared.event.Reading.{Reading}
 use Rattle.record.specs.declared.event.Reading.the-variants.{Meant, Refused}
 use Rattle.record.proofs.Ranges.{reading-number}
@@ -72,19 +74,15 @@ module _ (h : Shunter) (bytes : List ℕ) where
     -- the core says 11: its state is not sound
     pub applied-eleven : answer .code ≡ notSound → applying h bytes ≡ shuntRefused notSound h
     unfolding ready
-    applied-eleven eleven = by (sound s) refl
-      where
-        by : (b : Bool) → sound s ≡ b → applying h bytes ≡ shuntRefused notSound h
-        by true ok = absurd (sound-number s bytes ok (sym code ∙ eleven))
-        by false bad = unready (ap (λ b. b && rulesHold (s .places) (h .queue)) bad)
+    applied-eleven eleven =
+        cases (sound s)
+        (λ ok. absurd (sound-number s bytes ok (sym code ∙ eleven)))
+        (λ bad. unready (ap (λ b. b && rulesHold (s .places) (h .queue)) bad))
 
     -- the core says something else: its state is sound
     sound-then : (answer .code ≡ notSound → ⊥) → sound s ≡ true
-    sound-then other = by (sound s) refl
-      where
-        by : (b : Bool) → sound s ≡ b → sound s ≡ true
-        by true ok = ok
-        by false bad = absurd (other (code ∙ ap (λ o. o .code) (bytes-unsound s bytes bad)))
+    sound-then other =
+        cases (sound s) (λ ok. ok) (λ bad. absurd (other (code ∙ ap (λ o. o .code) (bytes-unsound s bytes bad))))
 
     -- the answer of a ready shunter is the one to whom the record concerns
     pub applied-on : (read : Reading) (r : Shunted)

@@ -20,7 +20,9 @@ use Rattle.place.specs.declared.place.Holding.the-variants.{Free, Held}
 use Rattle.place.specs.declared.place.Place.{Place}
 use Rattle.unit.specs.Concerns.{takesIn, actionFor, releaseFor, otherFor, placeOf}
 use Rattle.unit.specs.Forms.{mostActions}
-use Rattle.unit.specs.Kept.{once, here, count, weigh}
+use Rattle.unit.specs.Kept.{here, count}
+use Rattle.wire.specs.Bytes.{asBit}
+use Rattle.wire.specs.Sums.{sum}
 use Rattle.unit.specs.Standings.{Concern, nobody, orderTo, callOf, naming}
 use Rattle.unit.specs.States.{placeCount}
 use Rattle.unit.specs.Steps.{act}
@@ -51,7 +53,7 @@ EndsIn (naming p e) acts = Unit
 -- what the core's laws say of the actions of an accepted step that stirs none of those that wait
 pub record Acted (c : Concern) (before after : List Place) (is : List ℕ) (acts : List Action) : Type 0 where
   pub conserved : (mine : Partner → Bool)
-      → count (releaseFor mine) acts + weigh (here (placeOf mine)) after ≡ weigh (here (placeOf mine)) before + once (takesIn mine c)
+      → count (releaseFor mine) acts + sum (here (placeOf mine)) after ≡ sum (here (placeOf mine)) before + asBit (takesIn mine c)
   pub most : (mine : Partner → Bool) → count (actionFor mine) acts ≤ mostFor mine before c
   pub quiet : count (otherFor (waitsFor before is)) acts ≡ 0
   pub ends : EndsIn c acts
@@ -65,7 +67,7 @@ own-counted before acts nobody ends = omega arith
 own-counted before acts (orderTo p) ends =
     let own = ownRequest (orderTo p) in
     let joined = ap (count own) (ends .last) ∙ count-append own (ends .closings) (act p request ∷ []) in
-    let one : once (samePartner p p && true) ≡ 1 = ap (λ b. once (b && true)) (same-refl p) in
+    let one : asBit (samePartner p p && true) ≡ 1 = ap (λ b. asBit (b && true)) (same-refl p) in
     omega arith
 own-counted before acts (callOf p) ends = omega arith
 own-counted before acts (naming p e) ends = omega arith
@@ -99,7 +101,7 @@ module _ (c : Concern) (waits : Partner → Bool) (acts : List Action) where
       omega arith
     where
       by : (a : Action) (own w r : Bool) → ownRequest c a ≡ own → isRelease a ≡ r
-          → once (not (own || (w && r)) && r) + once (w && r) ≡ once r
+          → asBit (not (own || (w && r)) && r) + asBit (w && r) ≡ asBit r
       by a true w true own is = true-false true refl (sym own ∙ own-other c a is)
       by a true true false own is = refl
       by a true false false own is = refl
@@ -117,7 +119,7 @@ module _ (c : Concern) (waits : Partner → Bool) (acts : List Action) where
       by : (a : Action) (own w r : Bool)
           → ownRequest c a ≡ own
           → isRelease a ≡ r
-          → once own + once (w && r) ≡ once (own || (w && r))
+          → asBit own + asBit (w && r) ≡ asBit (own || (w && r))
       by a true w true own is = true-false true refl (sym own ∙ own-other c a is)
       by a true true false own is = refl
       by a true false false own is = refl
@@ -133,7 +135,7 @@ module _ (c : Concern) (waits : Partner → Bool) (acts : List Action) where
       let all = count-all acts in
       omega arith
     where
-      one-of : (b : Bool) → once (not b && true) + once b ≡ 1
+      one-of : (b : Bool) → asBit (not b && true) + asBit b ≡ 1
       one-of true = refl
       one-of false = refl
 
@@ -147,7 +149,7 @@ module _ (c : Concern) (before after : List Place) (is : List ℕ) (acts : List 
   lined = lineUp before is c after
 
   -- who is taken in joins or calls
-  taken-in : (c : Concern) → once (takesIn anybody c) ≡ length (newcomers before c) + once (isCallOf c)
+  taken-in : (c : Concern) → asBit (takesIn anybody c) ≡ length (newcomers before c) + asBit (isCallOf c)
   taken-in nobody = refl
   taken-in (orderTo p) = refl
   taken-in (callOf p) = refl
@@ -159,22 +161,22 @@ module _ (c : Concern) (before after : List Place) (is : List ℕ) (acts : List 
   line-length = length-append (stayers c before after is step) (newcomers before c)
 
   -- the held places before the step
-  held-before : modemsHeld before is + length is ≡ weigh (here busy) before
+  held-before : modemsHeld before is + length is ≡ sum (here busy) before
   held-before = modems-count before is (step .four) (facts .fresh) (facts .apart)
 
   -- and after it
-  held-after : modemsHeld after lined + length lined ≡ weigh (here busy) after
+  held-after : modemsHeld after lined + length lined ≡ sum (here busy) after
   held-after =
       modems-count after lined (step .still-four) (line-fresh c before after is step) (line-apart c before after is step)
 
   -- the modems that were held, and one for a call, are released or held
   pub account : count isRelease (kept (λ a. not (heldBack waits c a)) acts) + modemsHeld after lined
-      ≡ modemsHeld before is + once (isCallOf c)
+      ≡ modemsHeld before is + asBit (isCallOf c)
   account =
       let out = releases-out c waits acts in
       let theirs = acted .conserved waits in
       let all = acted .conserved anybody in
-      let none = ap once (newcomer-waits c before after is step) in
+      let none = ap asBit (newcomer-waits c before after is step) in
       let w = waits-before c before after is step in
       let v = waits-after c before after is step in
       let a = held-all before in
@@ -186,14 +188,14 @@ module _ (c : Concern) (before after : List Place) (is : List ℕ) (acts : List 
       omega arith
 
   -- no more than four are held
-  busy-four : weigh (here busy) before + 0 ≤ placeCount
+  busy-four : sum (here busy) before + 0 ≤ placeCount
   busy-four =
       let most = weigh-few (here busy) before (λ place. once-few (busy place)) in
       let four = step .four in
       omega arith
 
   -- an order finds a place free
-  free-for-order : (c : Concern) → Places c before after → weigh (here busy) before + length (newcomers before c) ≤ placeCount
+  free-for-order : (c : Concern) → Places c before after → sum (here busy) before + length (newcomers before c) ≤ placeCount
   free-for-order nobody changed = busy-four
   free-for-order (orderTo p) changed =
       let less = room-free before (changed .at) (changed .below) (changed .free) in
@@ -238,12 +240,12 @@ module _ (c : Concern) (before after : List Place) (is : List ℕ) (acts : List 
       by true call free =
           let less = leb-false modemCount (modemsHeld before is) free in
           let a = account in
-          let one : once (isCallOf c) ≡ 1 = ap once call in
+          let one : asBit (isCallOf c) ≡ 1 = ap asBit call in
           omega arith
       by false call free =
           let most = facts .most in
           let a = account in
-          let none : once (isCallOf c) ≡ 0 = ap once call in
+          let none : asBit (isCallOf c) ≡ 0 = ap asBit call in
           omega arith
 
   module _ (free : (isCallOf c && leb modemCount (modemsHeld before is)) ≡ false) where
@@ -273,13 +275,13 @@ module _ (c : Concern) (before after : List Place) (is : List ℕ) (acts : List 
   others p = not (waits p)
 
   -- a test passes or fails
-  either : (b : Bool) → once b + once (not b) ≡ 1
+  either : (b : Bool) → asBit b + asBit (not b) ≡ 1
   either true = refl
   either false = refl
 
   -- those that do not wait have the modems
-  others-held : weigh (here (placeOf others)) before ≡ modemsHeld before is
-  unfolding weigh
+  others-held : sum (here (placeOf others)) before ≡ modemsHeld before is
+  unfolding sum
   others-held =
       let w = waits-before c before after is step in
       let h = held-before in
@@ -287,14 +289,14 @@ module _ (c : Concern) (before after : List Place) (is : List ℕ) (acts : List 
       omega arith
     where
       split-one : (k : Holding)
-          → once (placeOf others (record { holding = k })) + once (placeOf waits (record { holding = k }))
-          ≡ once (busy (record { holding = k }))
+          → asBit (placeOf others (record { holding = k })) + asBit (placeOf waits (record { holding = k }))
+          ≡ asBit (busy (record { holding = k }))
       split-one Free = refl
       split-one (Held d ph p) =
           let one = either (waits p) in
           omega arith
 
-      weigh-plus : (ps : List Place) → weigh (here (placeOf others)) ps + weigh (here (placeOf waits)) ps ≡ weigh (here busy) ps
+      weigh-plus : (ps : List Place) → sum (here (placeOf others)) ps + sum (here (placeOf waits)) ps ≡ sum (here busy) ps
       weigh-plus [] = refl
       weigh-plus (p ∷ ps) =
           let own = split-one (p .holding) in
@@ -314,7 +316,7 @@ module _ (c : Concern) (before after : List Place) (is : List ℕ) (acts : List 
       let quiet = acted .quiet in
       omega arith
     where
-      split-of : (b r : Bool) → once (b && r) + once (b && not r) ≡ once b
+      split-of : (b r : Bool) → asBit (b && r) + asBit (b && not r) ≡ asBit b
       split-of true true = refl
       split-of true false = refl
       split-of false r = refl

@@ -11,7 +11,7 @@ use Rattle.wire.specs.Refusals as refusal
 use Rattle.wire.proofs.Tests.{cond-case}
 use Rattle.place.specs.Places.{isFree}
 use Rattle.place.specs.declared.limits.Limits.{Limits}
-use Rattle.unit.specs.Kept.{once}
+use Rattle.wire.specs.Bytes.{asBit}
 use Rattle.unit.specs.OnRecords.{actionRoom}
 use Rattle.unit.specs.Standings.{Concern}
 use Rattle.unit.specs.States.{placeCount, coldStart}
@@ -31,49 +31,51 @@ use Rattle.shunter.proofs.Balance.{queue-after, left-few}
 use Rattle.shunter.proofs.Goods.{moved, acted}
 
 -- what holds in each case holds of the step
-pub by-case : (P : Shunting → Type 0) (h : Shunter) (bytes : List ℕ) (room : ℕ)
-    → (leb actionRoom room ≡ false → P (shuntRefused refusal.noRoom h))
-    → (leb actionRoom room ≡ true → ready h ≡ false → P (shuntRefused refusal.notSound h))
-    → (leb actionRoom room ≡ true
-    → ready h ≡ true
-    → stirsWaiting h (concernIn h bytes) ≡ true
-    → P (shuntRefused placeWaits h))
-    → (leb actionRoom room ≡ true
-    → ready h ≡ true
-    → stirsWaiting h (concernIn h bytes) ≡ false
-    → (coreStep h bytes .code ≡ refusal.accepted → ⊥)
-    → P (shuntRefusedAt (coreStep h bytes .code) (coreStep h bytes .standing) h))
-    → (leb actionRoom room ≡ true
-    → ready h ≡ true
-    → stirsWaiting h (concernIn h bytes) ≡ false
-    → coreStep h bytes .code ≡ refusal.accepted
-    → callTooMany h (concernIn h bytes) ≡ true
-    → P (shuntRefused modemMissing h))
-    → (leb actionRoom room ≡ true
-    → ready h ≡ true
-    → stirsWaiting h (concernIn h bytes) ≡ false
-    → coreStep h bytes .code ≡ refusal.accepted
-    → callTooMany h (concernIn h bytes) ≡ false
-    → P (sends h (concernIn h bytes) (coreStep h bytes)))
-    → P (shunt h bytes room)
-unfolding shunt applying onConcern passed
-by-case P h bytes room ten eleven eighteen core seventeen sent =
-    cond-case P (leb actionRoom room) (applying h bytes) _
-    (λ enough.
-    cond-case P (ready h) (onConcern h (concernIn h bytes) (coreStep h bytes)) _
-    (λ good.
-    cond-case P (stirsWaiting h (concernIn h bytes)) _ (passed h (concernIn h bytes) (coreStep h bytes))
-    (eighteen enough good)
-    (λ calm.
-    cond-case P (eqb (coreStep h bytes .code) refusal.accepted) _ _
-    (λ taken.
-    let accepted = eqb-true (coreStep h bytes .code) refusal.accepted taken in
-    cond-case P (callTooMany h (concernIn h bytes)) _ (sends h (concernIn h bytes) (coreStep h bytes))
-    (seventeen enough good calm accepted)
-    (sent enough good calm accepted))
-    (λ other. core enough good calm (eqb-false (coreStep h bytes .code) refusal.accepted other))))
-    (eleven enough))
-    ten
+module _ (P : Shunting → Type 0) (h : Shunter) (bytes : List ℕ) (room : ℕ) where
+  abbrev about : Concern
+  about = concernIn h bytes
+
+  abbrev core : Outcome
+  core = coreStep h bytes
+
+  -- past each refusal: with room; and ready; and nobody stirred who waits; and taken by the core
+  abbrev Roomy : Type 0 → Type 0
+  Roomy X = leb actionRoom room ≡ true → X
+
+  abbrev Ready : Type 0 → Type 0
+  Ready X = Roomy (ready h ≡ true → X)
+
+  abbrev Calm : Type 0 → Type 0
+  Calm X = Ready (stirsWaiting h about ≡ false → X)
+
+  abbrev Taken : Type 0 → Type 0
+  Taken X = Calm (core .code ≡ refusal.accepted → X)
+
+  pub by-case : (leb actionRoom room ≡ false → P (shuntRefused refusal.noRoom h))
+      → Roomy (ready h ≡ false → P (shuntRefused refusal.notSound h))
+      → Ready (stirsWaiting h about ≡ true → P (shuntRefused placeWaits h))
+      → Calm ((core .code ≡ refusal.accepted → ⊥) → P (shuntRefusedAt (core .code) (core .standing) h))
+      → Taken (callTooMany h about ≡ true → P (shuntRefused modemMissing h))
+      → Taken (callTooMany h about ≡ false → P (sends h about core))
+      → P (shunt h bytes room)
+  unfolding shunt applying onConcern passed
+  by-case ten eleven eighteen other seventeen sent =
+      cond-case P (leb actionRoom room) (applying h bytes) _
+      (λ enough.
+      cond-case P (ready h) (onConcern h about core) _
+      (λ good.
+      cond-case P (stirsWaiting h about) _ (passed h about core)
+      (eighteen enough good)
+      (λ calm.
+      cond-case P (eqb (core .code) refusal.accepted) _ _
+      (λ taken.
+      let accepted = eqb-true (core .code) refusal.accepted taken in
+      cond-case P (callTooMany h about) _ (sends h about core)
+      (seventeen enough good calm accepted)
+      (sent enough good calm accepted))
+      (λ refused. other enough good calm (eqb-false (core .code) refusal.accepted refused))))
+      (eleven enough))
+      ten
 
 module _ (h : Shunter) (bytes : List ℕ) (good : ready h ≡ true) (calm : stirsWaiting h (concernIn h bytes) ≡ false)
     (accepted : coreStep h bytes .code ≡ refusal.accepted)
@@ -157,8 +159,8 @@ cold-ready l =
 
     none : modemsHeld (coldStart l .state .places) [] ≤ modemCount
     none =
-        let nobody = sumTo-none (λ i. once (hasModem (coldStart l .state .places) [] i)) placeCount
-        (λ i below. ap (λ place. once (not (isFree place) && true)) (cold-vacant l i)) in
+        let nobody = sumTo-none (λ i. asBit (hasModem (coldStart l .state .places) [] i)) placeCount
+        (λ i below. ap (λ place. asBit (not (isFree place) && true)) (cold-vacant l i)) in
         omega arith
 
 -- "13 for the cold start": the box's own number, with the box of a cold start, refused or not, and nobody waiting

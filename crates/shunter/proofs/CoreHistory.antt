@@ -21,17 +21,19 @@ use Rattle.unit.specs.Standings.{Concern}
 use Rattle.unit.specs.States.{coldStart}
 use Rattle.unit.specs.Steps.{Outcome, act}
 use Rattle.unit.specs.declared.state.State.{State}
-use Rattle.unit.proofs.Agreed.Refusals.{onRecord-kept}
+use Rattle.unit.proofs.Again.Refusals.{onRecord-kept}
 use Rattle.unit.proofs.Counts.{count-all}
-use Rattle.history.specs.Histories.{endOf, after, sumOver, summed, orders, calls, losses, actions, releases, placesHeld, perOrder, perCall}
-use Rattle.history.specs.Histories.{perLoss, waits, silent, timeouts, timeoutsToRelease, holdsPlace}
+use Rattle.history.specs.Histories.{endOf, after, sumOver, summed, orders, calls, losses, actions, releases, placesHeld}
+use Rattle.history.specs.PerEvent.{perOrder, perCall, perLoss, timeoutsToRelease}
+use Rattle.history.specs.Histories.{waits, silent, timeouts, holdsPlace}
 use Rattle.history.proofs.Bounds.{bound}
 use Rattle.history.proofs.TakenIn.{taken-in}
 use Rattle.history.proofs.Waiting as waited
 use Rattle.shunter.specs.Queues.{waiting, queued, placeAt, ready, coldShunter}
 use Rattle.shunter.specs.Shunting.{Shunting, modemMissing, placeWaits, kept, waitsFor, heldBack, freeModems, served, firstRequests}
 use Rattle.shunter.specs.Shunting.{lineOf, sends, callTooMany, stirsWaiting, concernIn, coreStep, shunt}
-use Rattle.shunter.specs.ShunterHistories.{shunterAfter, shunterSum, reaches, reached, coldReached, wentOut}
+use Rattle.shunter.specs.ShunterHistories.{shunterAfter, shunterSum, reaches, reached}
+use Rattle.shunter.specs.ShunterSums.{coldReached, wentOut}
 use Rattle.shunter.specs.declared.state.Shunter.{Shunter}
 use Rattle.shunter.proofs.Gathered.{kept-length}
 use Rattle.shunter.proofs.Ready.{ready-sound, ready-queued}

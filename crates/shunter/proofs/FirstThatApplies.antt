@@ -1,3 +1,4 @@
+-- Cross-checks only: rules told a second time.
 -- "First that applies": each refusal of a step exactly when, and the numbers.
 -- Proves: shunter-numbered, shunt-ten, shunt-eleven, shunt-eighteen, shunt-core, shunt-seventeen, shunt-sends, shunt-unread, only-eleven,
 -- only-eighteen, only-seventeen, shunt-few, waiting-unreached.
@@ -26,7 +27,7 @@ use Rattle.unit.proofs.Shapes.{StepRefusal, RecordRefusal}
 use Rattle.shunter.specs.Queues.{modemCount, noPlace, ready}
 use Rattle.shunter.specs.Shunting.{Shunting, modemMissing, placeWaits, shuntRefused, callTooMany, stirsWaiting, concernIn, coreStep}
 use Rattle.shunter.specs.Shunting.{sends, passed, onConcern, applying, shunt}
-use Rattle.shunter.specs.ShunterHistories.{partnerWaits}
+use Rattle.shunter.specs.ShunterSums.{partnerWaits}
 use Rattle.shunter.specs.declared.state.Shunter.{Shunter}
 use Rattle.shunter.proofs.Goods.{few}
 use Rattle.shunter.proofs.Applies.{sound-number}

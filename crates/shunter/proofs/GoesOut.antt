@@ -16,7 +16,8 @@ use Rattle.place.specs.Places.{isFree, partnerOf}
 use Rattle.place.specs.Table.{request}
 use Rattle.place.specs.declared.place.Place.{Place}
 use Rattle.unit.specs.Concerns.{actionFor}
-use Rattle.unit.specs.Kept.{once, count}
+use Rattle.unit.specs.Kept.{count}
+use Rattle.wire.specs.Bytes.{asBit}
 use Rattle.unit.specs.OnRecords.{actionRoom}
 use Rattle.unit.specs.Standings.{Concern, nobody, orderTo, callOf, naming}
 use Rattle.unit.specs.Steps.{Outcome, act}
@@ -28,7 +29,8 @@ use Rattle.history.proofs.Counted.{and-true}
 use Rattle.shunter.specs.Queues.{waiting, placeAt, ready}
 use Rattle.shunter.specs.Shunting.{kept, waitsFor, ownRequest, heldBack, newcomers, served, firstRequests, lineOf, sends}
 use Rattle.shunter.specs.Shunting.{callTooMany, stirsWaiting, concernIn, coreStep, shunt}
-use Rattle.shunter.specs.ShunterHistories.{requestTo, orderOf, partnerWaits}
+use Rattle.shunter.specs.ShunterSums.{requestTo, partnerWaits}
+use Rattle.shunter.specs.ShunterSums.{orderOf}
 use Rattle.shunter.specs.declared.state.Shunter.{Shunter}
 use Rattle.shunter.proofs.TwoTests.{or-first}
 use Rattle.shunter.proofs.Ready.{ready-sound}
@@ -60,7 +62,7 @@ own-exactly before acts (orderTo p) ends =
     let few = count-implied own mine (λ a h. and-left (samePartner p (a .partner)) (eqb (a .number) request) h) acts in
     let all = ap (count mine) (ends .last) ∙ count-append mine (ends .closings) (act p request ∷ []) in
     let closings = ends .others in
-    let last : count mine (act p request ∷ []) ≡ 1 = ap (λ b. once b + 0) (same-refl p) in
+    let last : count mine (act p request ∷ []) ≡ 1 = ap (λ b. asBit b + 0) (same-refl p) in
     omega arith
 own-exactly before acts (callOf p) ends = none-pass acts
 own-exactly before acts (naming p e) ends = none-pass acts
@@ -119,7 +121,7 @@ module _ (h : Shunter) (bytes : List ℕ) (room : ℕ) (enough : 20 ≤ room) (g
       requests-only p ps [] = refl
       requests-only p ps (i ∷ is) =
           let rest = requests-only p ps is in
-          let own = ap once (and-true (samePartner p (partnerOf (placeAt ps i)))) in
+          let own = ap asBit (and-true (samePartner p (partnerOf (placeAt ps i)))) in
           omega arith
 
   -- "nothing else is missing or added": the order's own 21 and a 22 for each that left the queue are missing, the 21s of the served added
@@ -140,7 +142,7 @@ module _ (h : Shunter) (bytes : List ℕ) (room : ℕ) (enough : 20 ≤ room) (g
       let back = back-count c waits (o .actions) in
       let own = own-exactly (h .state .places) (o .actions) c (sent .ends) in
       let theirs = sent .conserved waits in
-      let none = ap once (newcomer-waits c (h .state .places) after is step) in
+      let none = ap asBit (newcomer-waits c (h .state .places) after is step) in
       let w = waits-before c (h .state .places) after is step in
       let v = waits-after c (h .state .places) after is step in
       omega arith

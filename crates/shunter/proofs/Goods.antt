@@ -24,7 +24,9 @@ use Rattle.place.specs.declared.place.Holding.the-variants.{Free, Held}
 use Rattle.place.specs.declared.place.Place.{Place}
 use Rattle.unit.specs.Concerns.{takesIn, actionFor, heldBy, isConnecting, placeOf, placePast}
 use Rattle.unit.specs.Forms.{mostActions}
-use Rattle.unit.specs.Kept.{once, here, count, weigh}
+use Rattle.unit.specs.Kept.{here, count}
+use Rattle.wire.specs.Bytes.{asBit}
+use Rattle.wire.specs.Sums.{sum}
 use Rattle.unit.specs.OnRecords.{actionRoom, onRecord}
 use Rattle.unit.specs.Standings.{Concern, nobody, orderTo, callOf, naming, concernOf}
 use Rattle.unit.specs.States.{first, nowhere}
@@ -50,8 +52,8 @@ use Rattle.shunter.proofs.Accounts.{place-waiting}
 use Rattle.shunter.proofs.Balance.{EndsIn, Acted, line-few, out-few}
 
 -- no weight anywhere
-weigh-none : (f : Place → ℕ) (ps : List Place) → ((i : ℕ) → f (placeAt ps i) ≡ 0) → weigh f ps ≡ 0
-unfolding weigh
+weigh-none : (f : Place → ℕ) (ps : List Place) → ((i : ℕ) → f (placeAt ps i) ≡ 0) → sum f ps ≡ 0
+unfolding sum
 weigh-none f [] none = refl
 weigh-none f (p ∷ ps) none =
     let own = none 0 in
@@ -89,24 +91,24 @@ module _ (h : Shunter) (bytes : List ℕ) (ready-h : ready h ≡ true) where
         }
 
     -- each partner that waits has a place
-    waits-held : (p : Partner) → waitsFor before is p ≡ true → 1 ≤ weigh (here (holds p)) before
+    waits-held : (p : Partner) → waitsFor before is p ≡ true → 1 ≤ sum (here (holds p)) before
     waits-held p mine =
-        waits-some before p is mine (1 ≤ weigh (here (holds p)) before)
+        waits-some before p is mine (1 ≤ sum (here (holds p)) before)
         (λ i one has. holds-weigh p before i has)
 
     -- and it is Connecting
-    waits-connecting : weigh (here (placePast (waitsFor before is))) before ≡ 0
+    waits-connecting : sum (here (placePast (waitsFor before is))) before ≡ 0
     waits-connecting =
         weigh-none (here (placePast (waitsFor before is))) before
         (λ i. by i (placeAt before i .holding) refl)
       where
         by : (i : ℕ) (k : Holding)
             → placeAt before i .holding ≡ k
-            → once (placePast (waitsFor before is) (record { holding = k })) ≡ 0
+            → asBit (placePast (waitsFor before is) (record { holding = k })) ≡ 0
         by i Free at = refl
         by i (Held d ph p) at = past (waitsFor before is p) (isConnecting ph) refl refl
           where
-            past : (a b : Bool) → waitsFor before is p ≡ a → isConnecting ph ≡ b → once (a && not b) ≡ 0
+            past : (a b : Bool) → waitsFor before is p ≡ a → isConnecting ph ≡ b → asBit (a && not b) ≡ 0
             past true true mine connects = refl
             past true false mine connects =
                 let own = ap (heldBy (waitsFor before is)) at ∙ mine in
@@ -123,7 +125,7 @@ module _ (h : Shunter) (bytes : List ℕ) (ready-h : ready h ≡ true) where
         record {
           conserved = λ mine.
               onRecord-releases (h .state) mine bytes actionRoom
-              ∙ ap (λ b. weigh (here (placeOf mine)) before + once (b && takesIn mine c)) (eq-eqb (o .code) refusal.accepted accepted);
+              ∙ ap (λ b. sum (here (placeOf mine)) before + asBit (b && takesIn mine c)) (eq-eqb (o .code) refusal.accepted accepted);
           most = λ mine. onRecord-most (h .state) mine bytes actionRoom;
           quiet =
               onRecord-quiet (h .state) (waitsFor before is) waits-held waits-connecting bytes actionRoom
@@ -152,7 +154,7 @@ module _ (waits : Partner → Bool) (p : Partner) where
       by : (b : Bool)
           → samePartner p (a .partner) ≡ b
           → kept (λ a. not (heldBack waits (orderTo p) a)) acts ≡ outward waits acts
-          → once b + count (actionFor (samePartner p)) acts ≡ 0
+          → asBit b + count (actionFor (samePartner p)) acts ≡ 0
           → cond (not ((b && eqb (a .number) request) || w)) (a ∷ kept (λ a. not (heldBack waits (orderTo p) a)) acts)
           (kept (λ a. not (heldBack waits (orderTo p) a)) acts)
           ≡ cond (not w) (a ∷ outward waits acts) (outward waits acts)

@@ -11,7 +11,7 @@ use lib.Dec.{eqb}
 use lib.ListN.{length, take, drop}
 use borrow.Author.Tests.{not-true, eqb-true, eqb-false, eq-eqb, ne-eqb}
 use Rattle.wire.proofs.Tests.{and-left, and-right, and-both, true-false}
-use Rattle.unit.specs.Kept.{once}
+use Rattle.wire.specs.Bytes.{asBit}
 use Rattle.shunter.specs.Queues.{among, every, distinct, sumTo}
 use Rattle.shunter.specs.Shunting.{kept}
 use Rattle.shunter.proofs.TwoTests.{or-either, or-first, or-second, no-first, no-second, not-less}
@@ -159,18 +159,18 @@ sumTo-none f (suc n) none =
     omega arith
 
 -- one number counts one
-sumTo-one : (k n : ℕ) → k < n → sumTo n (λ i. once (eqb i k)) ≡ 1
+sumTo-one : (k n : ℕ) → k < n → sumTo n (λ i. asBit (eqb i k)) ≡ 1
 unfolding sumTo
 sumTo-one k zero below = absurd (omega arith)
 sumTo-one k (suc n) below = by (eqb n k) refl (sumTo-one k n)
   where
     by : (b : Bool)
         → eqb n k ≡ b
-        → (k < n → sumTo n (λ i. once (eqb i k)) ≡ 1)
-        → sumTo n (λ i. once (eqb i k)) + once b ≡ 1
+        → (k < n → sumTo n (λ i. asBit (eqb i k)) ≡ 1)
+        → sumTo n (λ i. asBit (eqb i k)) + asBit b ≡ 1
     by true is rest =
         let same = eqb-true n k is in
-        let none = sumTo-none (λ i. once (eqb i k)) n (λ i less. ap once (ne-eqb i k (λ h. omega arith))) in
+        let none = sumTo-none (λ i. asBit (eqb i k)) n (λ i less. ap asBit (ne-eqb i k (λ h. omega arith))) in
         omega arith
     by false is rest =
         let other = eqb-false n k is in
@@ -181,20 +181,20 @@ sumTo-one k (suc n) below = by (eqb n k) refl (sumTo-one k n)
 pub sumTo-row : (n : ℕ) (is : List ℕ)
     → distinct is ≡ true
     → ((i : ℕ) → among i is ≡ true → i < n)
-    → sumTo n (λ i. once (among i is)) ≡ length is
+    → sumTo n (λ i. asBit (among i is)) ≡ length is
 unfolding distinct among
 sumTo-row n [] apart below = sumTo-none (λ i. 0) n (λ i less. refl)
 sumTo-row n (k ∷ is) apart below =
     let own = sumTo-one k n (below k (or-first (eqb k k) (among k is) (eq-eqb k k refl))) in
     let rest =
     sumTo-row n is (and-right (not (among k is)) (distinct is) apart) (λ i h. below i (or-second (eqb i k) (among i is) h)) in
-    let both = sumTo-plus (λ i. once (eqb i k)) (λ i. once (among i is)) n in
+    let both = sumTo-plus (λ i. asBit (eqb i k)) (λ i. asBit (among i is)) n in
     let split =
-    sumTo-same (λ i. once (eqb i k || among i is)) (λ i. once (eqb i k) + once (among i is)) n
+    sumTo-same (λ i. asBit (eqb i k || among i is)) (λ i. asBit (eqb i k) + asBit (among i is)) n
     (λ i less. by i (eqb i k) (among i is) refl refl) in
     omega arith
   where
-    by : (i : ℕ) (a b : Bool) → eqb i k ≡ a → among i is ≡ b → once (a || b) ≡ once a + once b
+    by : (i : ℕ) (a b : Bool) → eqb i k ≡ a → among i is ≡ b → asBit (a || b) ≡ asBit a + asBit b
     by i true true same more =
         true-false (not (among k is)) (and-left (not (among k is)) (distinct is) apart)
         (ap (λ j. not (among j is)) (sym (eqb-true i k same)) ∙ ap not more)

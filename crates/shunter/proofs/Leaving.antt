@@ -10,6 +10,7 @@ use native.Mathlib.Omega.{arith}
 use lib.Dec.{eqb}
 use lib.ListN.{length, getD, take, drop, take-append-drop}
 use borrow.Author.Tests.{eqb-true, eqb-false, ltb-true}
+use borrow.Table.Steps.{cases}
 use Rattle.wire.specs.Refusals as refusal
 use Rattle.wire.proofs.Tests.{and-both, true-false}
 use Rattle.record.specs.Partners.{samePartner, isRbc}
@@ -29,7 +30,7 @@ use Rattle.place.specs.declared.place.Holding.{Holding}
 use Rattle.place.specs.declared.place.Holding.the-variants.{Free, Held}
 use Rattle.place.specs.declared.place.Place.{Place}
 use Rattle.place.specs.declared.turn.Closing.the-variants.{Sessions}
-use Rattle.place.proofs.Agreed.Rows.{connecting-turns, closedBy-sessions}
+use Rattle.place.proofs.Again.Rows.{connecting-turns, closedBy-sessions}
 use Rattle.shunter.specs.Shunting.{wakes}
 use Rattle.unit.specs.Kept.{count}
 use Rattle.unit.specs.Lasts.{meant}
@@ -39,9 +40,9 @@ use Rattle.unit.specs.States.{first, sound}
 use Rattle.unit.specs.Steps.{step}
 use Rattle.unit.specs.declared.answer.Action.{Action}
 use Rattle.unit.specs.declared.state.State.{State}
-use Rattle.unit.proofs.Agreed.Noted.{level-stored, mission-places, mode-marked, hole-entered, hole-left}
-use Rattle.unit.proofs.Agreed.Precedence.{named-seven, hole-seven}
-use Rattle.unit.proofs.Agreed.Turned.{order-closings, order-others, call-others}
+use Rattle.unit.proofs.Again.Noted.{level-stored, mission-places, mode-marked, hole-entered, hole-left}
+use Rattle.unit.proofs.Again.Precedence.{named-seven, hole-seven}
+use Rattle.unit.proofs.Again.Turned.{order-closings, order-others, call-others}
 use Rattle.unit.proofs.Counts.{count-append}
 use Rattle.unit.proofs.Effects.{step-places}
 use Rattle.unit.proofs.Facts.{sound-facts}
@@ -50,7 +51,9 @@ use Rattle.unit.proofs.Shapes.{by-reading}
 use Rattle.shunter.specs.Queues.{waiting, among, placeAt, firstTried, justOrdered, ready}
 use Rattle.shunter.specs.Shunting.{Shunting, kept, waitsFor, heldBack, newcomers, lineUp, freeModems, served, unserved}
 use Rattle.shunter.specs.Shunting.{firstRequests, lineOf, sends, callTooMany, stirsWaiting, concernIn, coreStep, shunt}
-use Rattle.shunter.specs.ShunterHistories.{queuedAt, requestTo, releasing, releasedBy}
+use Rattle.shunter.specs.ShunterHistories.{queuedAt}
+use Rattle.shunter.specs.ShunterSums.{requestTo}
+use Rattle.shunter.specs.ShunterSums.{releasing, releasedBy}
 use Rattle.shunter.specs.declared.state.Shunter.{Shunter}
 use Rattle.shunter.proofs.TwoTests.{or-either, or-first, and-none}
 use Rattle.shunter.proofs.InRow.{among-append, among-every, kept-among}
@@ -239,20 +242,18 @@ module _ (s : State) (good : sound s ≡ true) (is : List ℕ) (i : ℕ) (one : 
           (ap (λ ps. placeAt ps i) (mission-places s mission (eqb-false mission missionEnded is) .0))
           free
   event-releases Mode calm taken free = same-taken (step s Mode .state .places) (ap (λ ps. placeAt ps i) (mode-marked s .2)) free
-  event-releases (Hole true) calm taken free = by (s .marks .inside) refl
-    where
-      by : (b : Bool) → s .marks .inside ≡ b → false ≡ true
-      by true inside =
-          let seven = hole-seven s true inside in
-          absurd (omega arith)
-      by false outside = same-taken (step s (Hole true) .state .places) (ap (λ ps. placeAt ps i) (hole-entered s outside .1)) free
-  event-releases (Hole false) calm taken free = by (s .marks .inside) refl
-    where
-      by : (b : Bool) → s .marks .inside ≡ b → false ≡ true
-      by true inside = same-taken (step s (Hole false) .state .places) (ap (λ ps. placeAt ps i) (hole-left s inside .1)) free
-      by false outside =
-          let seven = hole-seven s false outside in
-          absurd (omega arith)
+  event-releases (Hole true) calm taken free =
+      cases (s .marks .inside)
+      (λ inside.
+      let seven = hole-seven s true inside in
+      absurd (omega arith))
+      (λ outside. same-taken (step s (Hole true) .state .places) (ap (λ ps. placeAt ps i) (hole-entered s outside .1)) free)
+  event-releases (Hole false) calm taken free =
+      cases (s .marks .inside)
+      (λ inside. same-taken (step s (Hole false) .state .places) (ap (λ ps. placeAt ps i) (hole-left s inside .1)) free)
+      (λ outside.
+      let seven = hole-seven s false outside in
+      absurd (omega arith))
   event-releases (Order q accepting cause) calm taken free = by (isRbc (meant (s .last) q)) accepting refl refl
     where
       after : List Place

@@ -21,7 +21,8 @@ use Rattle.place.specs.declared.phase.Phase.the-variants.{Connecting, Contactin
 use Rattle.place.specs.declared.place.Direction.{Direction}
 use Rattle.place.specs.declared.place.Place.{Place}
 use Rattle.unit.specs.Concerns.{stirring, stirs, isConnecting}
-use Rattle.unit.specs.Kept.{here, weigh}
+use Rattle.unit.specs.Kept.{here}
+use Rattle.wire.specs.Sums.{sum}
 use Rattle.unit.specs.Standings.{Concern, nobody, orderTo, callOf, naming}
 use Rattle.unit.specs.States.{placeCount, first}
 use Rattle.unit.proofs.Effects.{Effect, stays, leaves, moves, Newcomer, Places, turning-each}
@@ -101,7 +102,7 @@ pub record Moved (c : Concern) (before after : List Place) (is : List ℕ) : Typ
   pub changed : Places c before after
   pub four : length before ≡ placeCount
   pub still-four : length after ≡ placeCount
-  pub one : (p : Partner) → weigh (here (holds p)) before ≤ 1
+  pub one : (p : Partner) → sum (here (holds p)) before ≤ 1
   pub fresh : every (λ i. justOrdered (placeAt before i)) is ≡ true
   pub apart : distinct is ≡ true
   pub calm : stirs (waitsFor before is) c ≡ false

@@ -20,7 +20,9 @@ use Rattle.place.specs.declared.place.Holding.{Holding}
 use Rattle.place.specs.declared.place.Holding.the-variants.{Free, Held}
 use Rattle.place.specs.declared.place.Place.{Place}
 use Rattle.unit.specs.Concerns.{takesIn, actionFor, otherFor, placeOf}
-use Rattle.unit.specs.Kept.{once, here, count, weigh}
+use Rattle.unit.specs.Kept.{here, count}
+use Rattle.wire.specs.Bytes.{asBit}
+use Rattle.wire.specs.Sums.{sum}
 use Rattle.unit.specs.Standings.{Concern, nobody, orderTo, callOf, naming}
 use Rattle.unit.specs.States.{some, first}
 use Rattle.unit.specs.Steps.{act}
@@ -34,7 +36,8 @@ use Rattle.unit.proofs.Seats.{own-places}
 use Rattle.history.proofs.Counted.{and-true}
 use Rattle.shunter.specs.Queues.{among, distinct, placeAt}
 use Rattle.shunter.specs.Shunting.{kept, waitsFor, ownRequest, heldBack, newcomers, lineUp, firstRequests}
-use Rattle.shunter.specs.ShunterHistories.{requestTo, releaseTo, orderOf, callBy}
+use Rattle.shunter.specs.ShunterSums.{requestTo, releaseTo, callBy}
+use Rattle.shunter.specs.ShunterSums.{orderOf}
 use Rattle.shunter.proofs.TwoTests.{fails-then, or-either, or-first, or-second, or-none, and-none}
 use Rattle.shunter.proofs.InRow.{among-append, among-kept, kept-among}
 use Rattle.shunter.proofs.Modems.{holds-weigh, one-place}
@@ -44,15 +47,15 @@ use Rattle.shunter.proofs.Accounts.{count-kept, count-plus, partner-kep
 use Rattle.shunter.proofs.Balance.{EndsIn, Acted, own-counted, own-other}
 
 -- a partner with one place at most has one, or none
-some-weigh : (test : Place → Bool) (ps : List Place) → weigh (here test) ps ≤ 1 → weigh (here test) ps ≡ once (some test ps)
-unfolding weigh some
+some-weigh : (test : Place → Bool) (ps : List Place) → sum (here test) ps ≤ 1 → sum (here test) ps ≡ asBit (some test ps)
+unfolding sum some
 some-weigh test [] few = refl
 some-weigh test (p ∷ ps) few = by (test p) few (some-weigh test ps)
   where
     by : (b : Bool)
-        → once b + weigh (here test) ps ≤ 1
-        → (weigh (here test) ps ≤ 1 → weigh (here test) ps ≡ once (some test ps))
-        → once b + weigh (here test) ps ≡ once (b || some test ps)
+        → asBit b + sum (here test) ps ≤ 1
+        → (sum (here test) ps ≤ 1 → sum (here test) ps ≡ asBit (some test ps))
+        → asBit b + sum (here test) ps ≡ asBit (b || some test ps)
     by true few rest = omega arith
     by false few rest =
         let own = rest (omega arith) in
@@ -60,7 +63,7 @@ some-weigh test (p ∷ ps) few = by (test p) few (some-weigh test ps)
 
 -- a partner that has a place has some place
 pub place-some : (p : Partner) (ps : List Place) (i : ℕ)
-    → weigh (here (holds p)) ps ≤ 1
+    → sum (here (holds p)) ps ≤ 1
     → holds p (placeAt ps i) ≡ true
     → some (holds p) ps ≡ true
 place-some p ps i few has = by (some (holds p) ps) refl
@@ -69,7 +72,7 @@ place-some p ps i few has = by (some (holds p) ps) refl
     by true is = refl
     by false is =
         let weight = some-weigh (holds p) ps few in
-        let none = ap once is in
+        let none = ap asBit is in
         let own = holds-weigh p ps i has in
         absurd (omega arith)
 
@@ -100,14 +103,14 @@ count-implied t u more (a ∷ acts) =
     let rest = count-implied t u more acts in
     omega arith
   where
-    by : (x y : Bool) → (x ≡ true → y ≡ true) → once x ≤ once y
+    by : (x y : Bool) → (x ≡ true → y ≡ true) → asBit x ≤ asBit y
     by true y more =
-        let one = ap once (more refl) in
+        let one = ap asBit (more refl) in
         omega arith
     by false true more = omega arith
     by false false more = omega arith
 
-module _ (p : Partner) (after : List Place) (one : weigh (here (holds p)) after ≤ 1) where
+module _ (p : Partner) (after : List Place) (one : sum (here (holds p)) after ≤ 1) where
   -- the first request of a held place is its partner's
   request-own : (place : Place) → busy place ≡ true → (samePartner p (partnerOf place) && true) ≡ holds p place
   request-own place own = by (place .holding) own
@@ -121,16 +124,16 @@ module _ (p : Partner) (after : List Place) (one : weigh (here (holds p)) after 
   pub hits-once : (js : List ℕ)
       → ((j : ℕ) → among j js ≡ true → busy (placeAt after j) ≡ true)
       → distinct js ≡ true
-      → count (requestTo p) (firstRequests after js) ≡ once (waitsFor after js p)
+      → count (requestTo p) (firstRequests after js) ≡ asBit (waitsFor after js p)
   unfolding count waitsFor among distinct
   hits-once [] own apart = refl
   hits-once (j ∷ js) own apart =
       let rest = hits-once js (λ k h. own k (or-second (eqb k j) (among k js) h)) (and-right (not (among j js)) (distinct js) apart) in
-      let first = ap once (request-own (placeAt after j) (own j (or-first (eqb j j) (among j js) (eq-eqb j j refl)))) in
+      let first = ap asBit (request-own (placeAt after j) (own j (or-first (eqb j j) (among j js) (eq-eqb j j refl)))) in
       let both = by (holds p (placeAt after j)) (waitsFor after js p) refl refl in
       omega arith
     where
-      by : (a b : Bool) → holds p (placeAt after j) ≡ a → waitsFor after js p ≡ b → once a + once b ≡ once (a || b)
+      by : (a b : Bool) → holds p (placeAt after j) ≡ a → waitsFor after js p ≡ b → asBit a + asBit b ≡ asBit (a || b)
       by true true has more =
           waits-some after p js more (2 ≡ 1)
           (λ k waits had.
@@ -150,7 +153,7 @@ hits-split p after n js =
 
 module _ (p : Partner) (c : Concern) (before after : List Place) (is : List ℕ) (acts : List Action) (step : Moved c before after is)
     (acted : Acted c before after is acts)
-    (one-after : weigh (here (holds p)) after ≤ 1) where
+    (one-after : sum (here (holds p)) after ≤ 1) where
   abbrev waits : Partner → Bool
   waits = waitsFor before is
 
@@ -281,7 +284,7 @@ module _ (p : Partner) (c : Concern) (before after : List Place) (is : List ℕ)
               (ap (λ w. not (w && eqb (a .number) release)) (sym theirs) ∙ h)
       by (inr own) = ordered c (acted .ends) own
         where
-          split : (x y : Bool) → once (not x && y) + once (x && y) ≡ once y
+          split : (x y : Bool) → asBit (not x && y) + asBit (x && y) ≡ asBit y
           split true y = omega arith
           split false y = omega arith
 
@@ -340,8 +343,8 @@ module _ (p : Partner) (c : Concern) (before after : List Place) (is : List ℕ)
       by a false is = ap (λ b. not (heldBack waits c a) && b) is ∙ and-none (not (heldBack waits c a)) ∙ sym is
 
   -- the account of its releases and its place
-  pub place-account : count (releaseTo p) acts + once (some (holds p) after)
-      ≡ once (some (holds p) before) + (once (orderOf p c) + once (callBy p c))
+  pub place-account : count (releaseTo p) acts + asBit (some (holds p) after)
+      ≡ asBit (some (holds p) before) + (asBit (orderOf p c) + asBit (callBy p c))
   place-account =
       let conserved = acted .conserved (samePartner p) in
       let b = own-places p before ∙ some-weigh (holds p) before (step .one p) in
@@ -349,7 +352,7 @@ module _ (p : Partner) (c : Concern) (before after : List Place) (is : List ℕ)
       let t = taken c in
       omega arith
     where
-      taken : (c : Concern) → once (takesIn (samePartner p) c) ≡ once (orderOf p c) + once (callBy p c)
+      taken : (c : Concern) → asBit (takesIn (samePartner p) c) ≡ asBit (orderOf p c) + asBit (callBy p c)
       taken nobody = refl
       taken (orderTo q) = omega arith
       taken (callOf q) = omega arith
@@ -359,13 +362,13 @@ module _ (p : Partner) (c : Concern) (before after : List Place) (is : List ℕ)
   pub newcomer-absent : some (holds p) before ≡ true → (orderOf p c ≡ false) × (callBy p c ≡ false)
   newcomer-absent has = by c (step .changed)
     where
-      none : (q : Partner) → weigh (here (holds q)) before ≡ 0 → samePartner p q ≡ false
+      none : (q : Partner) → sum (here (holds q)) before ≡ 0 → samePartner p q ≡ false
       none q absent =
           fails-then (samePartner p q)
           (λ same.
-          let gone : weigh (here (holds p)) before ≡ 0 = ap (λ r. weigh (here (holds r)) before) (same-eq p q same) ∙ absent in
+          let gone : sum (here (holds p)) before ≡ 0 = ap (λ r. sum (here (holds r)) before) (same-eq p q same) ∙ absent in
           let own = some-weigh (holds p) before (step .one p) in
-          let one = ap once has in
+          let one = ap asBit has in
           absurd (omega arith))
 
       by : (c : Concern) → Places c before after → (orderOf p c ≡ false) × (callBy p c ≡ false)
@@ -392,7 +395,7 @@ module _ (p : Partner) (c : Concern) (before after : List Place) (is : List ℕ)
   core-none absent no-order no-call =
       let most = acted .most (samePartner p) in
       let less = out-less (actionFor (samePartner p)) in
-      let had = own-places p before ∙ some-weigh (holds p) before (step .one p) ∙ ap once absent in
+      let had = own-places p before ∙ some-weigh (holds p) before (step .one p) ∙ ap asBit absent in
       let none = by c (step .changed) no-order no-call had in
       omega arith
     where
@@ -400,13 +403,13 @@ module _ (p : Partner) (c : Concern) (before after : List Place) (is : List ℕ)
           → Places c before after
           → orderOf p c ≡ false
           → callBy p c ≡ false
-          → weigh (here (placeOf (samePartner p))) before ≡ 0
+          → sum (here (placeOf (samePartner p))) before ≡ 0
           → mostFor (samePartner p) before c ≡ 0
       by nobody changed o k had = had
       by (orderTo q) changed o k had =
-          let own = ap once o in
+          let own = ap asBit o in
           omega arith
-      by (callOf q) changed o k had = ap once k
+      by (callOf q) changed o k had = ap asBit k
       by (naming q e) changed o k had = named (samePartner p q) refl
         where
           named : (b : Bool) → samePartner p q ≡ b → _≡_ {A = ℕ} (cond b 2 0) 0

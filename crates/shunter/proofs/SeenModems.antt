@@ -19,7 +19,9 @@ use Rattle.place.specs.Table.{request, release}
 use Rattle.place.specs.declared.limits.Limits.{Limits}
 use Rattle.place.specs.declared.place.Place.{Place}
 use Rattle.unit.specs.Concerns.{takesIn, actionFor}
-use Rattle.unit.specs.Kept.{once, here, count, weigh}
+use Rattle.unit.specs.Kept.{here, count}
+use Rattle.wire.specs.Bytes.{asBit}
+use Rattle.wire.specs.Sums.{sum}
 use Rattle.unit.specs.OnRecords.{actionRoom}
 use Rattle.unit.specs.Standings.{Concern, nobody, orderTo, callOf, naming}
 use Rattle.unit.specs.States.{some, coldStart}
@@ -35,8 +37,10 @@ use Rattle.shunter.specs.Queues.{waiting, among, distinct, placeAt, read
 use Rattle.shunter.specs.Shunting.{Shunting, modemMissing, placeWaits, shuntRefusedAt, shuntRefused, kept, waitsFor, heldBack}
 use Rattle.shunter.specs.Shunting.{freeModems, served, unserved, firstRequests, lineOf, sends, shunt, callTooMany, stirsWaiting}
 use Rattle.shunter.specs.Shunting.{concernIn, coreStep}
-use Rattle.shunter.specs.ShunterHistories.{shunterAfter, shunterSum, requestTo, releaseTo, orderOf, callBy, accepts, modemAfter}
-use Rattle.shunter.specs.ShunterHistories.{modemSeen, partnerWaits, partnerModem, ordersTo, firstsTo, leftWaiting}
+use Rattle.shunter.specs.ShunterHistories.{shunterAfter, shunterSum}
+use Rattle.shunter.specs.ShunterSums.{requestTo, releaseTo, callBy, accepts, modemAfter}
+use Rattle.shunter.specs.ShunterSums.{orderOf, ordersTo, firstsTo, leftWaiting}
+use Rattle.shunter.specs.ShunterSums.{modemSeen, partnerWaits, partnerModem}
 use Rattle.shunter.specs.declared.state.Shunter.{Shunter}
 use Rattle.shunter.proofs.TwoTests.{fails-then, or-either, or-second, no-first, no-second, and-none}
 use Rattle.shunter.proofs.InRow.{distinct-drop, distinct-take, among-take, among-drop}
@@ -81,7 +85,7 @@ module _ (p : Partner) (h : Shunter) (bytes : List ℕ) (good : ready h ≡ true
   sent : Acted c before after is (o .actions)
   sent = acted h bytes good calm accepted
 
-  one-after : weigh (here (holds p)) after ≤ 1
+  one-after : sum (here (holds p)) after ≤ 1
   one-after = sound-facts (o .state) (onRecord-sound (h .state) bytes actionRoom (ready-sound h good)) .places .1 p
 
   line-held : (i : ℕ) → among i line ≡ true → busy (placeAt after i) ≡ true
@@ -91,14 +95,14 @@ module _ (p : Partner) (h : Shunter) (bytes : List ℕ) (good : ready h ≡ true
   apart = line-apart c before after is step
 
   -- one that is served is sent one 21
-  served-hits : count (requestTo p) (firstRequests after (served after line)) ≡ once (waitsFor after (served after line) p)
+  served-hits : count (requestTo p) (firstRequests after (served after line)) ≡ asBit (waitsFor after (served after line) p)
   served-hits =
       let n = freeModems after line in
       hits-once p after one-after (take n line) (λ i one. line-held i (among-take n i line one)) (distinct-take n line apart)
 
   -- the served and those that go on waiting are those in the line
-  served-or-left : once (waitsFor after (served after line) p) + once (waitsFor after (unserved after line) p)
-      ≡ once (waitsFor after line p)
+  served-or-left : asBit (waitsFor after (served after line) p) + asBit (waitsFor after (unserved after line) p)
+      ≡ asBit (waitsFor after line p)
   served-or-left =
       let n = freeModems after line in
       let split = hits-split p after n line in
@@ -109,7 +113,7 @@ module _ (p : Partner) (h : Shunter) (bytes : List ℕ) (good : ready h ≡ true
       omega arith
 
   -- the 21s and the 22s that go out to the partner
-  requests-out : count (requestTo p) (sends h c o .actions) ≡ count (requestTo p) out + once (waitsFor after (served after line) p)
+  requests-out : count (requestTo p) (sends h c o .actions) ≡ count (requestTo p) out + asBit (waitsFor after (served after line) p)
   unfolding sends
   requests-out =
       let joined = count-append (requestTo p) out (firstRequests after (served after line)) in
@@ -192,7 +196,7 @@ module _ (p : Partner) (h : Shunter) (bytes : List ℕ) (good : ready h ≡ true
       seated = some (holds p) after
 
       -- served, or it goes on waiting
-      given : (s l y : Bool) → once s + once l ≡ once y → told false false (once s) 0 ≡ (y && not l)
+      given : (s l y : Bool) → asBit s + asBit l ≡ asBit y → told false false (asBit s) 0 ≡ (y && not l)
       given true true true e = absurd (omega arith)
       given true true false e = absurd (omega arith)
       given true false true e = refl
@@ -204,7 +208,7 @@ module _ (p : Partner) (h : Shunter) (bytes : List ℕ) (good : ready h ≡ true
 
       -- it had a modem, or calls, or has nothing to do with the step
       other : (x call y : Bool) (q r : ℕ)
-          → r + once y ≡ once x + once call
+          → r + asBit y ≡ asBit x + asBit call
           → (x ≡ true → call ≡ false)
           → (call ≡ true → y ≡ true)
           → (x ≡ false → call ≡ false → q ≡ 0)
@@ -223,7 +227,7 @@ module _ (p : Partner) (h : Shunter) (bytes : List ℕ) (good : ready h ≡ true
       other false false true q r e alone then none = absurd (omega arith)
       other false false false q r e alone then none = ap (λ m. (leb 1 m || false) && not (leb 1 r)) (none refl refl)
 
-      none-of : (b : Bool) → once b ≡ 0 → b ≡ false
+      none-of : (b : Bool) → asBit b ≡ 0 → b ≡ false
       none-of true e = absurd (omega arith)
       none-of false e = refl
 
@@ -233,10 +237,10 @@ module _ (p : Partner) (h : Shunter) (bytes : List ℕ) (good : ready h ≡ true
           let quiet = mine-quiet mine in
           let none = silent (core-silent p c before after is (o .actions) step sent one-after mine) in
           let line-is = line-place p c before after is (o .actions) step sent one-after mine in
-          let split = served-or-left ∙ ap once line-is in
+          let split = served-or-left ∙ ap asBit line-is in
           let q = requests-out in
           let r = releases-out in
-          let q-is : count (requestTo p) (sends h c o .actions) ≡ once sv = omega arith in
+          let q-is : count (requestTo p) (sends h c o .actions) ≡ asBit sv = omega arith in
           let r-is : count (releaseTo p) (sends h c o .actions) ≡ 0 = omega arith in
           ap₂ (λ b k. told b k (count (requestTo p) (sends h c o .actions)) (count (releaseTo p) (sends h c o .actions)))
           (quiet .1) (quiet .0)
@@ -246,12 +250,12 @@ module _ (p : Partner) (h : Shunter) (bytes : List ℕ) (good : ready h ≡ true
           let no-wait = no-first (waitsFor before is p) (orderOf p c) nothing in
           let no-order = no-second (waitsFor before is p) (orderOf p c) nothing in
           let line-is = line-nobody p c before after is (o .actions) step sent one-after nothing in
-          let split = served-or-left ∙ ap once line-is in
+          let split = served-or-left ∙ ap asBit line-is in
           let left-is = none-of left (omega arith) in
           let q = requests-out in
           let r = releases-out ∙ core-releases p c before after is (o .actions) step sent one-after no-wait in
           let account = place-account p c before after is (o .actions) step sent one-after in
-          let ordered = ap once no-order in
+          let ordered = ap asBit no-order in
           let q-is : count (requestTo p) (sends h c o .actions) ≡ count (requestTo p) out = omega arith in
           ap₂ (λ b m. told (some (holds p) before && not b) (callBy p c) m (count (releaseTo p) (sends h c o .actions))) no-wait q-is
           ∙ ap (told (some (holds p) before && true) (callBy p c) (count (requestTo p) out)) r
@@ -269,16 +273,16 @@ module _ (p : Partner) (h : Shunter) (bytes : List ℕ) (good : ready h ≡ true
       ∙ sym (ap (λ js. some (holds p) after && not (waitsFor after js p)) (sends-waiting h bytes good calm accepted free))
 
   -- each first 21: an order, or a wait, ends in one 21, in a release, or goes on
-  sends-first : once (orderOf p c && true) + once (partnerWaits p h)
+  sends-first : asBit (orderOf p c && true) + asBit (partnerWaits p h)
       ≡ cond (partnerWaits p h || (orderOf p c && true)) (count (requestTo p) (sends h c o .actions)) 0
-      + once (partnerWaits p h && not (some (holds p) (sends h c o .shunter .state .places)))
-      + once (partnerWaits p (sends h c o .shunter))
+      + asBit (partnerWaits p h && not (some (holds p) (sends h c o .shunter .state .places)))
+      + asBit (partnerWaits p (sends h c o .shunter))
   unfolding sends
   sends-first =
-      let left = ap (λ js. once (waitsFor after js p)) (sends-waiting h bytes good calm accepted free) in
+      let left = ap (λ js. asBit (waitsFor after js p)) (sends-waiting h bytes good calm accepted free) in
       let account =
       settled (waitsFor before is p) (orderOf p c) (some (holds p) after) (count (requestTo p) (sends h c o .actions))
-      (once (waitsFor after (unserved after line) p))
+      (asBit (waitsFor after (unserved after line) p))
       (λ waits. newcomer-absent p c before after is (o .actions) step sent one-after (waits-place waits) .0)
       mine
       none
@@ -293,25 +297,25 @@ module _ (p : Partner) (h : Shunter) (bytes : List ℕ) (good : ready h ≡ true
           (λ i one own. place-some p before i (step .one p) own)
 
       mine : (waitsFor before is p || orderOf p c) ≡ true
-          → count (requestTo p) (sends h c o .actions) + once (waitsFor after (unserved after line) p) ≡ once (some (holds p) after)
+          → count (requestTo p) (sends h c o .actions) + asBit (waitsFor after (unserved after line) p) ≡ asBit (some (holds p) after)
       mine own =
           let quiet = silent (core-silent p c before after is (o .actions) step sent one-after own) in
-          let split = served-or-left ∙ ap once (line-place p c before after is (o .actions) step sent one-after own) in
+          let split = served-or-left ∙ ap asBit (line-place p c before after is (o .actions) step sent one-after own) in
           let q = requests-out in
           let r = quiet .0 in
           omega arith
 
-      none : (waitsFor before is p || orderOf p c) ≡ false → once (waitsFor after (unserved after line) p) ≡ 0
+      none : (waitsFor before is p || orderOf p c) ≡ false → asBit (waitsFor after (unserved after line) p) ≡ 0
       none other =
-          let split = served-or-left ∙ ap once (line-nobody p c before after is (o .actions) step sent one-after other) in
+          let split = served-or-left ∙ ap asBit (line-nobody p c before after is (o .actions) step sent one-after other) in
           omega arith
 
       settled : (w x y : Bool) (q l : ℕ)
           → (w ≡ true → x ≡ false)
-          → ((w || x) ≡ true → q + l ≡ once y)
+          → ((w || x) ≡ true → q + l ≡ asBit y)
           → ((w || x) ≡ false → l ≡ 0)
           → (x ≡ true → y ≡ true)
-          → once (x && true) + once w ≡ cond (w || (x && true)) q 0 + once (w && not y) + l
+          → asBit (x && true) + asBit w ≡ cond (w || (x && true)) q 0 + asBit (w && not y) + l
       settled true true y q l apart own none seated = true-false true refl (apart refl)
       settled true false true q l apart own none seated =
           let e = own refl in
@@ -361,10 +365,10 @@ module _ (p : Partner) (h : Shunter) (bytes : List ℕ) where
   -- what a step counts for
   abbrev FirstOf : Shunting → Type 0
   FirstOf x =
-      once (accepts (orderOf p) h bytes x) + once (partnerWaits p h)
+      asBit (accepts (orderOf p) h bytes x) + asBit (partnerWaits p h)
       ≡ cond (partnerWaits p h || accepts (orderOf p) h bytes x) (count (requestTo p) (x .actions)) 0
-      + once (partnerWaits p h && not (some (holds p) (x .shunter .state .places)))
-      + once (partnerWaits p (x .shunter))
+      + asBit (partnerWaits p h && not (some (holds p) (x .shunter .state .places)))
+      + asBit (partnerWaits p (x .shunter))
 
   refused-first : ready h ≡ true
       → (x : Shunting)
@@ -375,16 +379,16 @@ module _ (p : Partner) (h : Shunter) (bytes : List ℕ) where
   unfolding count
   refused-first good x other same none =
       let no = ne-eqb (x .code) refusal.accepted other in
-      let w = ap (λ k. once (partnerWaits p k)) same in
-      let y = ap (λ k. once (partnerWaits p h && not (some (holds p) (k .state .places)))) same in
-      let first = ap (λ b. once (orderOf p (concernIn h bytes) && b)) no ∙ ap once (and-none (orderOf p (concernIn h bytes))) in
+      let w = ap (λ k. asBit (partnerWaits p k)) same in
+      let y = ap (λ k. asBit (partnerWaits p h && not (some (holds p) (k .state .places)))) same in
+      let first = ap (λ b. asBit (orderOf p (concernIn h bytes) && b)) no ∙ ap asBit (and-none (orderOf p (concernIn h bytes))) in
       let asked =
       ap₂ (λ acts b. cond (partnerWaits p h || (orderOf p (concernIn h bytes) && b)) (count (requestTo p) acts) 0) none no
       ∙ nothing (partnerWaits p h || (orderOf p (concernIn h bytes) && false)) in
       let gone = stays (partnerWaits p h) (some (holds p) (h .state .places)) placed in
       omega arith
     where
-      stays : (w y : Bool) → (w ≡ true → y ≡ true) → once (w && not y) ≡ 0
+      stays : (w y : Bool) → (w ≡ true → y ≡ true) → asBit (w && not y) ≡ 0
       stays true true then = refl
       stays true false then = true-false false (then refl) refl
       stays false y then = refl
@@ -440,8 +444,8 @@ cold-modem-seen p l history =
 -- promise
 pub firsts-once : (p : Partner) (h : Shunter) (history : List (List ℕ))
     → ready h ≡ true
-    → ordersTo p h history + once (partnerWaits p h)
-    ≡ firstsTo p h history + leftWaiting p h history + once (partnerWaits p (shunterAfter h history))
+    → ordersTo p h history + asBit (partnerWaits p h)
+    ≡ firstsTo p h history + leftWaiting p h history + asBit (partnerWaits p (shunterAfter h history))
 unfolding shunterSum shunterAfter
 firsts-once p h [] good = omega arith
 firsts-once p h (bytes ∷ history) good =

@@ -13,7 +13,8 @@ use Rattle.wire.specs.Refusals as refusal
 use Rattle.wire.proofs.Tests.{and-left, and-right, and-both, true-false}
 use Rattle.place.specs.Places.{isFree}
 use Rattle.place.specs.declared.place.Place.{Place}
-use Rattle.unit.specs.Kept.{once, count}
+use Rattle.unit.specs.Kept.{count}
+use Rattle.wire.specs.Bytes.{asBit}
 use Rattle.unit.specs.OnRecords.{actionRoom}
 use Rattle.unit.specs.Standings.{Concern}
 use Rattle.unit.specs.Steps.{Outcome}
@@ -172,7 +173,7 @@ module _ (h : Shunter) (bytes : List ℕ) (good : ready h ≡ true) (calm : stir
       let call = no-call (isCallOf c) refl full in
       omega arith
     where
-      no-call : (b : Bool) → isCallOf c ≡ b → modemsHeld before is ≡ modemCount → once b ≡ 0
+      no-call : (b : Bool) → isCallOf c ≡ b → modemsHeld before is ≡ modemCount → asBit b ≡ 0
       no-call true call full =
           true-false (callTooMany h (concernIn h bytes))
           (and-both (isCallOf c) (allHeld h) call (le-leb modemCount (modemsHeld before is) (omega arith)))

@@ -17,8 +17,10 @@ use Rattle.unit.specs.Steps.{closed, closingActions, step}
 use Rattle.history.specs.Histories.{sumOver, summed, silent, timeouts, holdsPlace}
 use Rattle.shunter.specs.Queues.{waiting, queued, among, every, distinct, sumTo, modemsHeld, queueOk, rulesHold, ready, coldShunter}
 use Rattle.shunter.specs.Shunting.{kept, waitsFor, lineUp, sends, passed, onConcern, applying, shunt}
-use Rattle.shunter.specs.ShunterHistories.{shunterAfter, shunterSum, modemReleases, ahead, waitsThrough, modemSeen, ordersTo}
-use Rattle.shunter.specs.ShunterHistories.{reached, wentOut, releasedBy}
+use Rattle.shunter.specs.ShunterHistories.{shunterAfter, shunterSum, modemReleases, ahead, waitsThrough}
+use Rattle.shunter.specs.ShunterSums.{modemSeen}
+use Rattle.shunter.specs.ShunterSums.{ordersTo, wentOut, releasedBy}
+use Rattle.shunter.specs.ShunterHistories.{reached}
 use Rattle.shunter.specs.ShunterExamples.{fittedLimits, fitted, orderRbc, orderAlone, dropRbc, timeoutRbc, endAll, answersOf}
 use Rattle.shunter.specs.ShunterExamples.{threePartners, fourWait, twoLost}
 use Rattle.shunter.specs.declared.state.Shunter.{Shunter}

@@ -9,7 +9,8 @@ use native.Mathlib.Omega.{arith}
 use lib.ListN.{length, take, drop}
 use lib.Seq.{length-take-le}
 use borrow.Author.Tests.{le-leb, lt-leb}
-use Rattle.record.specs.Takes.{longestLog, taken, onTaken, TakenOk}
+use Rattle.record.specs.Takes.{longestLog, taken, onTaken}
+use Rattle.record.specs.TakeWords.{TakenOk}
 use Rattle.record.proofs.Takes.{taken-ok}
 use Rattle.record.specs.declared.take.Taken.{Taken}
 use Rattle.record.specs.declared.take.Taken.the-variants.{Whole, Stopped, Refused}
@@ -23,8 +24,9 @@ use Rattle.unit.specs.Runs.{noTotals, totalled, stops, applies, course, fresh, 
 use Rattle.unit.proofs.Runs.Tallies.{totalled-none, totalled-append}
 use Rattle.shunter.specs.Queues.{ready}
 use Rattle.shunter.specs.Shunting.{shunt}
-use Rattle.shunter.specs.ShunterRuns.{freshRun, shunterTallied, reported, shunterGo, shunterRefused, shunterRun, rowsIn}
-use Rattle.shunter.specs.ShunterHistories.{shunterAfter, shunterSum, shunterSent, refusals}
+use Rattle.shunter.specs.ShunterRuns.{freshRun, shunterTallied, reported, shunterGo, shunterRefused, shunterRun}
+use Rattle.shunter.specs.ShunterSums.{rowsIn, shunterSent, refusals}
+use Rattle.shunter.specs.ShunterHistories.{shunterAfter, shunterSum}
 use Rattle.shunter.specs.declared.state.Shunter.{Shunter}
 use Rattle.shunter.specs.declared.run.ShunterTally.{ShunterTally}
 use Rattle.shunter.specs.declared.run.ShunterReport.{ShunterReport}

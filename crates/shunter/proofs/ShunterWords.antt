@@ -1,3 +1,4 @@
+-- Cross-checks only: rules told a second time.
 -- What words of the shunter's promises mean, case by case.
 -- Proves: ahead-each, releasing-each, releasing-mission, releasedBy-unread, upLostTimeout-each, stirsWaiting-each, callTooMany-each,
 -- justOrdered-each, ready-means, releases-sent, went-sent.
@@ -32,8 +33,9 @@ use Rattle.unit.proofs.Counts.{count-append}
 use Rattle.history.specs.Histories.{isRelease}
 use Rattle.shunter.specs.Queues.{waiting, inOrder, every, distinct, placeAt, justOrdered, modemsHeld, queueOk, rulesHold, ready}
 use Rattle.shunter.specs.Shunting.{callTooMany, upLostTimeout, stirsWaiting, shunt}
-use Rattle.shunter.specs.ShunterHistories.{shunterSum, modemReleases, ahead, partnerWaits, shunterSent}
-use Rattle.shunter.specs.ShunterHistories.{wentOut, releasing, releasedBy}
+use Rattle.shunter.specs.ShunterHistories.{shunterSum, modemReleases, ahead}
+use Rattle.shunter.specs.ShunterSums.{partnerWaits}
+use Rattle.shunter.specs.ShunterSums.{shunterSent, wentOut, releasing, releasedBy}
 use Rattle.shunter.specs.declared.state.Shunter.{Shunter}
 use Rattle.shunter.proofs.Ready.{facts-queue, ready-sound, ready-queued}
 

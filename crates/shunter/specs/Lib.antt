@@ -4,3 +4,4 @@ pub mod Sending
 pub mod ShunterRuns
 pub mod ShunterHistories
 pub mod ShunterExamples
+pub mod ShunterSums

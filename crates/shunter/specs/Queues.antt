@@ -14,7 +14,7 @@ use Rattle.place.specs.declared.phase.Phase.the-variants.{Connecting, Contactin
 use Rattle.place.specs.declared.place.Direction.{Direction}
 use Rattle.place.specs.declared.place.Direction.the-variants.{Outgoing, Incoming}
 use Rattle.place.specs.declared.place.Place.{Place}
-use Rattle.unit.specs.Kept.{once}
+use Rattle.wire.specs.Bytes.{asBit}
 use Rattle.unit.specs.States.{placeCount, sound, coldStart}
 use Rattle.unit.specs.declared.state.State.{State}
 use Rattle.shunter.specs.declared.queue.Queue.{Queue}
@@ -91,7 +91,7 @@ sumTo (suc n) f = sumTo n f + f n
 
 -- how many modems are held
 unfoldable pub modemsHeld : List Place → List ℕ → ℕ
-modemsHeld ps is = sumTo placeCount (λ i. once (hasModem ps is i))
+modemsHeld ps is = sumTo placeCount (λ i. asBit (hasModem ps is i))
 
 -- "no more than two modems are held, none is idle while a place waits"; each that waits is as its order left it, and waits once
 unfoldable pub queueOk : List Place → List ℕ → Bool

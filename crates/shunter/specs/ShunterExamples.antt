@@ -1,9 +1,11 @@
--- Only laws use what stands here: histories of three and four partners on two modems, for computed instances.
+-- Examples only: nobody has to believe what stands here.
+-- Histories of three and four partners on two modems, for computed instances.
 -- Defines: fittedLimits, fitted, orderRbc, orderAlone, callRbc, dropRbc, upRbc, lostRbc, timeoutRbc, endAll, answersOf,
 -- threePartners, fourWait, twoLost.
 use Prim.Native.Nat.{ℕ}
 use mathlib.Core.List.{List, [], _∷_, _++_}
 use Rattle.place.specs.declared.limits.Limits.{Limits}
+use Rattle.unit.specs.States.{oneToTwo}
 use Rattle.unit.specs.OnRecords.{actionRoom, actionBytes}
 use Rattle.shunter.specs.Queues.{waiting, coldShunter}
 use Rattle.shunter.specs.Shunting.{shunt}
@@ -11,7 +13,7 @@ use Rattle.shunter.specs.declared.state.Shunter.{Shunter}
 
 -- X 1 to 2, three tries
 abbrev pub fittedLimits : Limits
-fittedLimits = record { lowest = 1; highest = 2; tries = 3 }
+fittedLimits = oneToTwo 3
 
 abbrev pub fitted : Shunter
 fitted = coldShunter fittedLimits .shunter

@@ -1,5 +1,5 @@
 -- Request Q-10: the run of the shunter over a log, as document 01 has it for the box.
--- Defines: freshRun, shunterTallied, reported, shunterGo, shunterRefused, shunterRun, rowsIn.
+-- Defines: freshRun, shunterTallied, reported, shunterGo, shunterRefused, shunterRun.
 use Prim.Native.Nat.{ℕ, zero, suc, _+_}
 use mathlib.Core.Bool.{cond}
 use mathlib.Core.List.{List, [], _∷_}
@@ -50,8 +50,3 @@ unfoldable pub shunterRun : Shunter → List ℕ → ℕ → ShunterReport
 shunterRun h log budget =
     cond (leb (length log) longestLog) (cond (ready h) (shunterGo budget (freshRun h) log) (shunterRefused notSound h))
     (shunterRefused logTooLong h)
-
--- the records that a run of so many takes off a log
-unfoldable pub rowsIn : ℕ → List ℕ → List (List ℕ)
-rowsIn zero log = []
-rowsIn (suc budget) log = onTaken (taken log) (λ stop. []) (λ k. take k log ∷ rowsIn budget (drop k log))

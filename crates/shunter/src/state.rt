@@ -1,7 +1,7 @@
 // The state of the shunter: the box's, and the queue; a place that is held and does not wait has a modem.
 ghost use mathlib.Core.Path.{_≡_};
 ghost use Prim.Native.Nat.{_<_};
-ghost use Rattle.unit.specs.Kept.{once};
+ghost use Rattle.wire.specs.Bytes.{asBit};
 ghost use Rattle.unit.specs.States.{first};
 ghost use Rattle.place.specs.Places.{isFree};
 ghost use Rattle.shunter.specs.Queues.{noPlace, placeAt, waiting, outgoing, firstTried, justOrdered, hasModem, modemsHeld};
@@ -96,7 +96,7 @@ fn just_ordered(place: Place) -> bool
 // 1 where a place is held and does not wait.
 fn modem_at(state: State, queue: Queue, at: usize) -> usize
     requires { ⌜ at < noPlace ⌝ }
-    ensures { λ r. ⌜ r ≡ once (hasModem (state .places) (waiting queue) at) ⌝ }
+    ensures { λ r. ⌜ r ≡ asBit (hasModem (state .places) (waiting queue) at) ⌝ }
 {
     let place = place_at(state, at);
     if and(negated(place.is_free()), negated(queue.has(at))) {

@@ -1,3 +1,4 @@
+-- Cross-checks only: rules told a second time.
 -- "Fields are separated by one space": a line and the last line as their fields, and what characters these have.
 -- Defines: field, NoNewline.
 -- Proves: line-fields, end-fields, spaced-apart, action-characters, partner-bytes, line-plain, end-plain.

@@ -1,3 +1,4 @@
+-- Cross-checks only: rules told a second time.
 -- The lines of a text, and those of a course: one for each step, and the last one.
 -- Proves: lines-joined, lines-cut, lines-applies, lines-count, lines-last.
 use mathlib.Core.Path.{_≡_, refl, sym, ap, _∙_}
@@ -12,7 +13,8 @@ use Rattle.wire.specs.Blocks.{blocks}
 use Rattle.wire.specs.Bytes.{byte}
 use Rattle.wire.proofs.Tests.{All, cond-case, getD-all}
 use Rattle.unit.specs.Steps.{Outcome}
-use Rattle.unit.specs.Runs.{Course, stops, applies, stepsOf, counted, tallied}
+use Rattle.unit.specs.Runs.{Course, stops, applies, counted, tallied}
+use Rattle.unit.specs.RunWords.{stepsOf}
 use Rattle.unit.specs.declared.answer.Action.{Action}
 use Rattle.unit.specs.declared.run.Tally.{Tally}
 use Rattle.text.specs.Texts.{decimal, lineText, endText}

@@ -8,7 +8,8 @@ use native.Mathlib.Omega.{arith}
 use lib.ListN.{length, getD, take, drop}
 use lib.Seq.{getD-take, getD-drop}
 use Rattle.wire.specs.Bytes.{byte}
-use Rattle.record.specs.Takes.{taken, TakenOk}
+use Rattle.record.specs.Takes.{taken}
+use Rattle.record.specs.TakeWords.{TakenOk}
 use Rattle.record.specs.declared.event.Reading.{Reading}
 use Rattle.record.specs.declared.take.Taken.{Taken}
 use Rattle.record.specs.declared.take.Taken.the-variants.{Whole, Stopped, Refused}
@@ -16,7 +17,8 @@ use Rattle.record.proofs.Takes.{taken-ok}
 use Rattle.unit.specs.States.{sound, coldStart}
 use Rattle.unit.specs.Steps.{Outcome}
 use Rattle.unit.specs.OnRecords.{actionRoom, onRecord}
-use Rattle.unit.specs.Runs.{Course, applies, course, stepsOf, steps, counted, fresh, go, run}
+use Rattle.unit.specs.Runs.{Course, applies, course, counted, fresh, go, run}
+use Rattle.unit.specs.RunWords.{stepsOf, steps}
 use Rattle.unit.specs.declared.state.State.{State}
 use Rattle.unit.specs.declared.run.Tally.{Tally}
 use Rattle.unit.specs.declared.run.Report.{Report}

@@ -1,3 +1,4 @@
+-- Cross-checks only: nobody has to believe what stands here.
 -- Document 01, "Run over a log", the part on the program `sheet`: a sheet taken apart again, into lines, fields and numbers.
 -- Defines: numberOf, spaced, begun, linesOf.
 use Prim.Native.Nat.{ℕ, _+_, _*_, _-_, _^_}

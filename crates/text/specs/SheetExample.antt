@@ -1,3 +1,4 @@
+-- Examples only: nobody has to believe what stands here.
 -- Document 01, "Run over a log": the sheet that is printed there, its input and its output, whole; and one with refusals, with two
 -- actions for a record, and with a record that is cut.
 -- Defines: exampleInput, exampleText, refusalsInput, refusalsText, to.

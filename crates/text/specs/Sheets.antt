@@ -8,7 +8,7 @@ use lib.ListN.{length}
 use Rattle.wire.specs.Bytes.{byte}
 use Rattle.place.specs.Places.{fleetTries}
 use Rattle.place.specs.declared.limits.Limits.{Limits}
-use Rattle.unit.specs.States.{coldStart}
+use Rattle.unit.specs.States.{coldStart, oneToTwo}
 use Rattle.unit.specs.Runs.{Course, stops, applies, course}
 use Rattle.text.specs.Texts.{newline, space, lineText, endText, placed}
 
@@ -28,7 +28,7 @@ mostInput = 4096
 
 -- "cold starts with X 1 to 2"; Q-3: "`sheet` .. relied on 3", so it passes 3
 abbrev pub sheetLimits : Limits
-sheetLimits = record { lowest = 1; highest = 2; tries = fleetTries }
+sheetLimits = oneToTwo fleetTries
 
 -- "runs with a budget of 4,096"
 abbrev pub sheetBudget : ℕ

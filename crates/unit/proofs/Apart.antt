@@ -18,6 +18,7 @@ use Rattle.record.specs.declared.event.PartnerEvent.the-variants.{Drop, Up, Los
 use Rattle.record.specs.declared.event.Event.the-variants.{Named}
 use Rattle.record.proofs.Partners.{same-refl, same-eq}
 use Rattle.wire.specs.Refusals as refusal
+use borrow.Table.Steps.{cases}
 use Rattle.wire.proofs.Tests.{true-false, cond-case, cond-holds}
 use Rattle.place.specs.Places.{tries, vacant, isFree, heldPhase, holds}
 use Rattle.place.specs.Table.{request, initiate, terminate, oneMore, again, turn, takes, numbers, placeAfter}
@@ -34,14 +35,17 @@ use Rattle.place.specs.declared.turn.Turn.{Turn}
 use Rattle.unit.specs.Lasts.{toRbc, recalled}
 use Rattle.unit.specs.declared.last.Last.{Last}
 use Rattle.unit.specs.declared.last.Last.the-variants.{Known}
-use Rattle.unit.specs.Kept.{once, count, isVersion}
+use Rattle.unit.specs.Kept.{count, isVersion}
+use Rattle.wire.specs.Bytes.{asBit}
 use Rattle.unit.specs.States.{some, first, seek, nowhere, standing}
-use Rattle.unit.specs.Steps.{Outcome, refusedAt, act, turned, turnedAt, namedAt, step}
+use Rattle.unit.specs.Steps.{Outcome, refusedAt, act, turnedAt, step}
+use Rattle.unit.specs.Searching.{turned, namedAt}
 use Rattle.unit.specs.declared.state.State.{State}
 use Rattle.unit.specs.declared.search.Found.{Found}
 use Rattle.unit.specs.declared.search.Found.the-variants.{At, Vacant, Full}
 use Rattle.unit.proofs.Searches.{found-ok}
 use Rattle.unit.proofs.Recalled.{recalled-none, step-last}
+use Rattle.unit.proofs.ByFound.{named-found}
 
 -- what an event does to the places: nothing, or one of them is set
 pub data Put : Type 0 where
@@ -91,11 +95,7 @@ one-partner p q (Held d ph r) h g = ap (samePartner p) (same-eq q r g) ∙ h
 module _ (p q : Partner) (other : samePartner p q ≡ false) where
   -- a place of one is not the other's
   not-held : (k : Holding) → holdsIn p k ≡ true → holdsIn q k ≡ false
-  not-held k h = by (holdsIn q k) refl
-    where
-      by : (b : Bool) → holdsIn q k ≡ b → holdsIn q k ≡ false
-      by true is = true-false (samePartner p q) (one-partner p q k h is) other
-      by false is = is
+  not-held k h = cases (holdsIn q k) (λ is. true-false (samePartner p q) (one-partner p q k h is) other) (λ none. none)
 
   -- what the one sets, the other does not see
   pub own-seen : (ps : List Place) (w : Put) → Own p ps w → Seen q ps (put w ps)
@@ -111,11 +111,7 @@ module _ (p q : Partner) (other : samePartner p q ≡ false) where
       before = not-held (getD ps i vacant .holding) (own .1)
 
       after : holds q x ≡ false
-      after = by (holds q x) refl
-        where
-          by : (b : Bool) → holds q x ≡ b → holds q x ≡ false
-          by true is = true-false (holds q (getD ps i vacant)) (own .2 q is) before
-          by false is = is
+      after = cases (holds q x) (λ is. true-false (holds q (getD ps i vacant)) (own .2 q is) before) (λ none. none)
 
       alike : holds q x ≡ holds q (getD ps i vacant)
       alike = after ∙ sym before
@@ -225,16 +221,17 @@ module _ (s t : State) (p : Partner) (e : PartnerEvent) (limits : t .limits ≡ 
 
   -- the step on an event that names it
   pub named-follows : Alike s t p (step s (Named p e)) (step t (Named p e))
-  unfolding step
-  named-follows = found-alike (some (holds p) (s .places)) refl
+  named-follows =
+      subst (λ o. Alike s t p o (step t (Named p e))) (sym (named-found s p e))
+      (subst (Alike s t p (namedAt s p e (seek p (s .places)))) (sym (named-found t p e))
+      (found-alike (some (holds p) (s .places)) refl))
 
 -- such an event leaves the train, the marks and the limits
 pub named-rest : (s : State) (p : Partner) (e : PartnerEvent)
     → (step s (Named p e) .state .train ≡ s .train)
     × (step s (Named p e) .state .marks ≡ s .marks)
     × (step s (Named p e) .state .limits ≡ s .limits)
-unfolding step
-named-rest s p e = by (seek p (s .places))
+named-rest s p e = subst Kept (sym (named-found s p e)) (by (seek p (s .places)))
   where
     Kept : Outcome → Type 0
     Kept o = (o .state .train ≡ s .train) × (o .state .marks ≡ s .marks) × (o .state .limits ≡ s .limits)
@@ -303,8 +300,9 @@ pub quiet-last : (s : State) (p : Partner) (e : PartnerEvent)
     → isVersion e ≡ false
     → (last : Last)
     → recalled last (step s (Named p e) .actions) ≡ last
-unfolding step recalled
-quiet-last s p e other last = by (seek p (s .places))
+unfolding recalled
+quiet-last s p e other last =
+    subst (λ (o : Outcome). recalled last (o .actions) ≡ last) (sym (named-found s p e)) (by (seek p (s .places)))
   where
     by : (f : Found) → recalled last (namedAt s p e f .actions) ≡ last
     by (At i ph) =
@@ -316,11 +314,10 @@ quiet-last s p e other last = by (seek p (s .places))
 
 -- two partners differ both ways
 pub other-sym : (p q : Partner) → samePartner p q ≡ false → samePartner q p ≡ false
-other-sym p q other = by (samePartner q p) refl
-  where
-    by : (b : Bool) → samePartner q p ≡ b → samePartner q p ≡ false
-    by true is = true-false (samePartner p q) (ap (samePartner p) (same-eq q p is) ∙ same-refl p) other
-    by false is = is
+other-sym p q other =
+    cases (samePartner q p)
+    (λ is. true-false (samePartner p q) (ap (samePartner p) (same-eq q p is) ∙ same-refl p) other)
+    (λ is. is)
 
 -- the two events in either order
 module _ (s : State) (p q : Partner) (e f : PartnerEvent) (other : samePartner p q ≡ false) where
@@ -358,7 +355,7 @@ sent-recalled q (number ∷ sent) last some =
 
     by : (b : Bool) (k : ℕ)
         → count toRbc (map (act q) sent) ≡ k
-        → 1 ≤ once b + k
+        → 1 ≤ asBit b + k
         → ((l : Last) → 1 ≤ k → recalled l (map (act q) sent) ≡ own)
         → recalled (cond b own last) (map (act q) sent) ≡ own
     by b (suc k) is h later = later (cond b own last) (omega arith)
@@ -368,8 +365,8 @@ sent-recalled q (number ∷ sent) last some =
 pub named-recalled : (s : State) (q : Partner) (f : PartnerEvent) (last : Last)
     → 1 ≤ count toRbc (step s (Named q f) .actions)
     → recalled last (step s (Named q f) .actions) ≡ Known (q .high) (q .middle) (q .low)
-unfolding step count
-named-recalled s q f last = by (seek q (s .places))
+unfolding count
+named-recalled s q f last = subst Sets (sym (named-found s q f)) (by (seek q (s .places)))
   where
     Sets : Outcome → Type 0
     Sets o = 1 ≤ count toRbc (o .actions) → recalled last (o .actions) ≡ Known (q .high) (q .middle) (q .low)

@@ -12,13 +12,15 @@ use Rattle.place.specs.Table.{closedBy}
 use Rattle.place.specs.declared.place.Place.{Place}
 use Rattle.place.specs.declared.turn.Closing.{Closing}
 use Rattle.unit.specs.Steps.{act, actionsIn, closingActions}
-use Rattle.unit.specs.Kept.{count, once, weigh}
+use Rattle.unit.specs.Kept.{count}
+use Rattle.wire.specs.Bytes.{asBit}
+use Rattle.wire.specs.Sums.{sum}
 use Rattle.unit.specs.declared.answer.Action.{Action}
 
 -- how many of these numbers pass a test
 abbrev pub passing : (ℕ → Bool) → List ℕ → ℕ
 passing test [] = 0
-passing test (number ∷ ks) = once (test number) + passing test ks
+passing test (number ∷ ks) = asBit (test number) + passing test ks
 
 -- nothing, whichever way a test goes
 pub nothing : (b : Bool) → _≡_ {A = ℕ} (cond b 0 0) 0
@@ -41,7 +43,7 @@ pub count-same : (test other : Action → Bool)
 unfolding count
 count-same test other same [] = refl
 count-same test other same (a ∷ acts) =
-    let first = ap once (same a) in
+    let first = ap asBit (same a) in
     let rest = count-same test other same acts in
     omega arith
 
@@ -58,9 +60,9 @@ pub count-one : (mine : Partner → Bool) (p : Partner) (ks : List ℕ)
     → count (λ a. mine (a .partner)) (map (act p) ks) ≡ cond (mine p) (length ks) 0
 unfolding count
 count-one mine p [] = sym (nothing (mine p))
-count-one mine p (k ∷ ks) = ap (λ c. once (mine p) + c) (count-one mine p ks) ∙ by (mine p)
+count-one mine p (k ∷ ks) = ap (λ c. asBit (mine p) + c) (count-one mine p ks) ∙ by (mine p)
   where
-    by : (b : Bool) → once b + cond b (length ks) 0 ≡ cond b (length (k ∷ ks)) 0
+    by : (b : Bool) → asBit b + cond b (length ks) 0 ≡ cond b (length (k ∷ ks)) 0
     by true = omega arith
     by false = refl
 
@@ -69,9 +71,9 @@ pub count-sent : (mine : Partner → Bool) (test : ℕ → Bool) (p : Partner) (
     → count (λ a. mine (a .partner) && test (a .number)) (map (act p) ks) ≡ cond (mine p) (passing test ks) 0
 unfolding count
 count-sent mine test p [] = sym (nothing (mine p))
-count-sent mine test p (k ∷ ks) = ap (λ c. once (mine p && test k) + c) (count-sent mine test p ks) ∙ by (mine p)
+count-sent mine test p (k ∷ ks) = ap (λ c. asBit (mine p && test k) + c) (count-sent mine test p ks) ∙ by (mine p)
   where
-    by : (b : Bool) → once (b && test k) + cond b (passing test ks) 0 ≡ cond b (once (test k) + passing test ks) 0
+    by : (b : Bool) → asBit (b && test k) + cond b (passing test ks) 0 ≡ cond b (asBit (test k) + passing test ks) 0
     by true = refl
     by false = refl
 
@@ -79,8 +81,8 @@ count-sent mine test p (k ∷ ks) = ap (λ c. once (mine p && test k) + c) (coun
 pub closingActions-most : (test : Action → Bool) (weight : Place → ℕ) (which : Closing)
     → ((p : Place) → count test (actionsIn (p .holding) (closedBy which p)) ≤ weight p)
     → (ps : List Place)
-    → count test (closingActions which ps) ≤ weigh weight ps
-unfolding count closingActions weigh
+    → count test (closingActions which ps) ≤ sum weight ps
+unfolding count closingActions sum
 closingActions-most test weight which each [] = omega arith
 closingActions-most test weight which each (p ∷ ps) =
     let first = each p in

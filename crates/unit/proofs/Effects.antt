@@ -49,7 +49,8 @@ use Rattle.unit.specs.declared.search.Found.the-variants.{At, Vacant}
 use Rattle.unit.proofs.Shapes.{StepRefusal, RecordRefusal, Shape, refuses, notes, closesEvery, orders, calls, turns}
 use Rattle.unit.proofs.Shapes.{shape, on-record, by-concern, step-numbered}
 use Rattle.unit.proofs.Weights.{length-closed, closed-at}
-use Rattle.unit.specs.Kept.{here, weigh}
+use Rattle.unit.specs.Kept.{here}
+use Rattle.wire.specs.Sums.{sum}
 use Rattle.unit.proofs.Searches.{found-ok}
 use Rattle.unit.proofs.OnBytes.{on-reading}
 
@@ -72,7 +73,7 @@ pub record Newcomer (c : Concern) (p : Partner) (newcomer : Place) (before after
   pub found : seek p before ≡ Vacant at
   pub below : at < length before
   pub free : isFree (getD before at vacant) ≡ true
-  pub absent : weigh (here (holds p)) before ≡ 0
+  pub absent : sum (here (holds p)) before ≡ 0
   pub seated : getD after at vacant ≡ newcomer
   pub others : (i : ℕ) → (i ≡ at → ⊥) → Effect c (getD before i vacant) (getD after i vacant)
 

@@ -29,7 +29,9 @@ use Rattle.unit.specs.Lasts.{lastOk}
 use Rattle.unit.specs.Steps.{closed}
 use Rattle.unit.specs.declared.state.State.{State}
 use Rattle.unit.proofs.Weights.{weigh-set, weigh-closed, weigh-at}
-use Rattle.unit.specs.Kept.{here, once, weigh}
+use Rattle.unit.specs.Kept.{here}
+use Rattle.wire.specs.Bytes.{asBit}
+use Rattle.wire.specs.Sums.{sum}
 use Rattle.unit.proofs.Searches.{none-some, some-none, first-none, none-first}
 
 -- 1 where a test fails
@@ -42,7 +44,7 @@ bad l p = fails (placeOk l p)
 
 -- the two facts of sound places
 abbrev pub PlacesFacts : Limits → List Place → Type 0
-PlacesFacts l ps = (weigh (bad l) ps ≡ 0) × ((q : Partner) → weigh (here (holds q)) ps ≤ 1)
+PlacesFacts l ps = (sum (bad l) ps ≡ 0) × ((q : Partner) → sum (here (holds q)) ps ≤ 1)
 
 passes-none : (b : Bool) → b ≡ true → fails b ≡ 0
 passes-none b h = ap fails h
@@ -58,38 +60,38 @@ fails-less true b h =
 fails-less false true h = omega arith
 fails-less false false h = omega arith
 
-here-less : (a b : Bool) → (b ≡ true → a ≡ true) → once b ≤ once a
+here-less : (a b : Bool) → (b ≡ true → a ≡ true) → asBit b ≤ asBit a
 here-less a false h = cond-holds (λ w. 0 ≤ w) a 1 0 (omega arith) (omega arith)
 here-less a true h =
-    let e : once a ≡ 1 = ap once (h refl) in
+    let e : asBit a ≡ 1 = ap asBit (h refl) in
     omega arith
 
 -- a partner that is absent from the places above takes its own place alone
 alone : (q : Partner) (k : Holding) (ps : List Place)
     → absentFrom ps k ≡ true
-    → weigh (here (holds q)) ps ≤ 1
-    → once (holdsIn q k) + weigh (here (holds q)) ps ≤ 1
+    → sum (here (holds q)) ps ≤ 1
+    → asBit (holdsIn q k) + sum (here (holds q)) ps ≤ 1
 alone q Free ps absent rest = omega arith
 alone q (Held d ph r) ps absent rest =
-    cond-case (λ w. w + weigh (here (holds q)) ps ≤ 1) (samePartner q r) 1 0
+    cond-case (λ w. w + sum (here (holds q)) ps ≤ 1) (samePartner q r) 1 0
     (λ same.
-    let none : weigh (here (holds r)) ps ≡ 0 = first-none (holds r) ps (none-some (holds r) ps absent) in
-    let none-q : weigh (here (holds q)) ps ≡ 0 = ap (λ p. weigh (here (holds p)) ps) (same-eq q r same) ∙ none in
+    let none : sum (here (holds r)) ps ≡ 0 = first-none (holds r) ps (none-some (holds r) ps absent) in
+    let none-q : sum (here (holds q)) ps ≡ 0 = ap (λ p. sum (here (holds p)) ps) (same-eq q r same) ∙ none in
     omega arith)
     (λ other. omega arith)
 
 -- and one that weighs no more than one is absent from those above
 lone : (k : Holding) (ps : List Place)
-    → ((q : Partner) → once (holdsIn q k) + weigh (here (holds q)) ps ≤ 1)
+    → ((q : Partner) → asBit (holdsIn q k) + sum (here (holds q)) ps ≤ 1)
     → absentFrom ps k ≡ true
 lone Free ps one = refl
 lone (Held d ph r) ps one =
-    let itself : once (samePartner r r) ≡ 1 = ap once (same-refl r) in
+    let itself : asBit (samePartner r r) ≡ 1 = ap asBit (same-refl r) in
     let both = one r in
     some-none (holds r) ps (none-first (holds r) ps (omega arith))
 
 pub places-facts : (l : Limits) (ps : List Place) → placesOk l ps ≡ true → PlacesFacts l ps
-unfolding placesOk weigh
+unfolding placesOk sum
 places-facts l [] ok = (refl, λ q. omega arith)
 places-facts l (p ∷ ps) ok =
     let above = absentFrom ps (p .holding) && placesOk l ps in
@@ -101,7 +103,7 @@ places-facts l (p ∷ ps) ok =
     )
 
 pub facts-places : (l : Limits) (ps : List Place) → PlacesFacts l ps → placesOk l ps ≡ true
-unfolding placesOk weigh
+unfolding placesOk sum
 facts-places l [] facts = refl
 facts-places l (p ∷ ps) facts =
     let none = facts .0 in
@@ -186,7 +188,7 @@ pub take-facts : (l : Limits) (ps : List Place) (i : ℕ) (d : Direction) (ph : 
     → PlacesFacts l ps
     → i < length ps
     → placeOk l (seat d ph p) ≡ true
-    → weigh (here (holds p)) ps ≡ 0
+    → sum (here (holds p)) ps ≡ 0
     → PlacesFacts l (set ps i (seat d ph p))
 take-facts l ps i d ph p facts below good absent =
     let none = facts .0 in
@@ -196,11 +198,11 @@ take-facts l ps i d ph p facts below good absent =
       λ q.
           let one = facts .1 q in
           let store = weigh-set (here (holds q)) ps i (seat d ph p) below in
-          let after = weigh (here (holds q)) (set ps i (seat d ph p)) in
-          cond-case (λ w. after + here (holds q) (getD ps i vacant) ≡ weigh (here (holds q)) ps + w → after ≤ 1)
+          let after = sum (here (holds q)) (set ps i (seat d ph p)) in
+          cond-case (λ w. after + here (holds q) (getD ps i vacant) ≡ sum (here (holds q)) ps + w → after ≤ 1)
           (samePartner q p) 1 0
           (λ itself account.
-          let none-q : weigh (here (holds q)) ps ≡ 0 = ap (λ r. weigh (here (holds r)) ps) (same-eq q p itself) ∙ absent in
+          let none-q : sum (here (holds q)) ps ≡ 0 = ap (λ r. sum (here (holds r)) ps) (same-eq q p itself) ∙ absent in
           omega arith)
           (λ other account. omega arith)
           store,
@@ -208,7 +210,7 @@ take-facts l ps i d ph p facts below good absent =
 
 -- a closing gives no partner a place
 pub closed-here : (which : Closing) (ps : List Place) (q : Partner)
-    → weigh (here (holds q)) (closed which ps) ≤ weigh (here (holds q)) ps
+    → sum (here (holds q)) (closed which ps) ≤ sum (here (holds q)) ps
 closed-here which ps q =
     weigh-closed (here (holds q)) which ps
     (λ p. here-less (holds q p) (holds q (placeAfter p (closedBy which p))) (after-holds q p (closedBy which p)))

@@ -31,7 +31,9 @@ use Rattle.unit.specs.declared.state.State.{State}
 use Rattle.unit.specs.declared.search.Found.the-variants.{Vacant}
 use Rattle.unit.proofs.Shapes.{Shape, refuses, notes, closesEvery, orders, calls, turns, shape, on-record}
 use Rattle.unit.proofs.Weights.{weigh-set, weigh-few}
-use Rattle.unit.specs.Kept.{here, once, weigh}
+use Rattle.unit.specs.Kept.{here}
+use Rattle.wire.specs.Bytes.{asBit}
+use Rattle.wire.specs.Sums.{sum}
 use Rattle.unit.proofs.Counts.{count-all, closingActions-most}
 use Rattle.unit.proofs.Searches.{found-ok}
 use Rattle.unit.proofs.Facts.{sound-facts}
@@ -48,7 +50,7 @@ closing-few Open = omega arith
 closing-few (Lost t) = omega arith
 closing-few (Ending t) = omega arith
 
-pub closedBy-few : (which : Closing) (k : Holding) → length (actionsIn k (holdingClosedBy which k)) ≤ once (not (isFreeHolding k))
+pub closedBy-few : (which : Closing) (k : Holding) → length (actionsIn k (holdingClosedBy which k)) ≤ asBit (not (isFreeHolding k))
 closedBy-few which Free = omega arith
 closedBy-few which (Held d ph p) =
     cond-holds (λ t. length (map (act p) (numbers t)) ≤ 1) (closes which ph p) (closing ph) Stays
@@ -57,13 +59,13 @@ closedBy-few which (Held d ph p) =
     (omega arith)
 
 -- a closing has at most one action for each place that is held
-pub closingActions-few : (which : Closing) (ps : List Place) → length (closingActions which ps) ≤ weigh (here busy) ps
+pub closingActions-few : (which : Closing) (ps : List Place) → length (closingActions which ps) ≤ sum (here busy) ps
 closingActions-few which ps =
     let all = count-all (closingActions which ps) in
     let most = closingActions-most (λ a. true) (here busy) which (λ p. rw count-all (closedBy-few which (p .holding))) ps in
     omega arith
 
-pub once-few : (b : Bool) → once b ≤ 1
+pub once-few : (b : Bool) → asBit b ≤ 1
 once-few true = omega arith
 once-few false = omega arith
 
@@ -71,11 +73,11 @@ once-few false = omega arith
 pub room-free : (ps : List Place) (i : ℕ)
     → i < length ps
     → isFree (getD ps i vacant) ≡ true
-    → weigh (here busy) ps + 1 ≤ length ps
+    → sum (here busy) ps + 1 ≤ length ps
 room-free ps i below free =
     let held = seat Outgoing (Connecting firstTry) (record { kind = 0; high = 0; middle = 0; low = 0 }) in
     let account = weigh-set (here busy) ps i held below in
-    let old : here busy (getD ps i vacant) ≡ 0 = ap (λ b. once (not b)) free in
+    let old : here busy (getD ps i vacant) ≡ 0 = ap (λ b. asBit (not b)) free in
     let most = weigh-few (here busy) (set ps i held) (λ p. once-few (busy p)) in
     let same = length-set ps i held in
     omega arith

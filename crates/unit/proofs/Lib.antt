@@ -2,6 +2,7 @@ pub mod Meant
 pub mod Shapes
 pub mod Weights
 pub mod Searches
+pub mod ByFound
 pub mod Counts
 pub mod Rows
 pub mod Balances
@@ -9,6 +10,7 @@ pub mod Scales
 pub mod StepAccounts
 pub mod Seats
 pub mod Facts
+pub mod FourPlaces
 pub mod Sound
 pub mod Few
 pub mod Starts
@@ -26,4 +28,4 @@ pub mod Recalled
 pub mod Apart
 pub mod Runs
 pub mod OneAnswer
-pub mod Agreed
+pub mod Again

@@ -10,6 +10,7 @@ use lib.Dec.{eqb}
 use lib.ListN.{length, getD, set}
 use Rattle.record.specs.Partners.{samePartner}
 use Rattle.record.specs.Records.{reading}
+use borrow.Table.Steps.{cases}
 use Rattle.record.specs.declared.partner.Partner.{Partner}
 use Rattle.record.specs.declared.event.PartnerEvent.{PartnerEvent}
 use Rattle.record.specs.declared.event.PartnerEvent.the-variants.{Drop, Up, Loss, Timeout, Version, Ended}
@@ -32,7 +33,9 @@ use Rattle.unit.specs.States.{seek, sound}
 use Rattle.unit.specs.Steps.{Outcome, act, actionsIn, closingActions, step}
 use Rattle.unit.specs.Concerns.{stirring, stirs, otherFor, isConnecting, heldPast, placePast}
 use Rattle.unit.specs.Standings.{Concern, concern, concernOf}
-use Rattle.unit.specs.Kept.{count, here, once, weigh}
+use Rattle.unit.specs.Kept.{count, here}
+use Rattle.wire.specs.Bytes.{asBit}
+use Rattle.wire.specs.Sums.{sum}
 use Rattle.unit.specs.OnRecords.{onRecord}
 use Rattle.unit.specs.declared.state.State.{State}
 use Rattle.unit.specs.declared.search.Found.the-variants.{Vacant}
@@ -51,7 +54,7 @@ abbrev other : ℕ → Bool
 other number = not (eqb number release)
 
 -- a closing of a Connecting place sends a release, and so does an event that does not stir
-closing-quiet : (ph : Phase) → passing other (numbers (closing ph)) ≤ once (not (isConnecting ph))
+closing-quiet : (ph : Phase) → passing other (numbers (closing ph)) ≤ asBit (not (isConnecting ph))
 closing-quiet (Connecting t) = omega arith
 closing-quiet (Contacting t) = omega arith
 closing-quiet Open = omega arith
@@ -71,19 +74,19 @@ turn-quiet l t Ended calm = refl
 
 -- each of these partners has a place, and all their places are Connecting
 module _ (s : State) (mine : Partner → Bool)
-    (held : (p : Partner) → mine p ≡ true → 1 ≤ weigh (here (holds p)) (s .places))
-    (connecting : weigh (here (placePast mine)) (s .places) ≡ 0) where
+    (held : (p : Partner) → mine p ≡ true → 1 ≤ sum (here (holds p)) (s .places))
+    (connecting : sum (here (placePast mine)) (s .places) ≡ 0) where
   closedBy-quiet : (which : Closing) (k : Holding)
-      → count (otherFor mine) (actionsIn k (holdingClosedBy which k)) ≤ once (heldPast mine k)
+      → count (otherFor mine) (actionsIn k (holdingClosedBy which k)) ≤ asBit (heldPast mine k)
   unfolding count
   closedBy-quiet which Free = omega arith
   closedBy-quiet which (Held d ph p) =
-      let most = once (mine p && not (isConnecting ph)) in
+      let most = asBit (mine p && not (isConnecting ph)) in
       cond-holds (λ t. count (otherFor mine) (map (act p) (numbers t)) ≤ most) (closes which ph p) (closing ph) Stays
       (rw (count-sent mine other p (numbers (closing ph))) (by (mine p)))
       (omega arith)
     where
-      by : (b : Bool) → cond b (passing other (numbers (closing ph))) 0 ≤ once (b && not (isConnecting ph))
+      by : (b : Bool) → cond b (passing other (numbers (closing ph))) 0 ≤ asBit (b && not (isConnecting ph))
       by true = closing-quiet ph
       by false = omega arith
 
@@ -95,14 +98,8 @@ module _ (s : State) (mine : Partner → Bool)
       omega arith
 
   -- a partner that has no place is none of them
-  none-of-them : (p : Partner) → weigh (here (holds p)) (s .places) ≡ 0 → mine p ≡ false
-  none-of-them p absent = by (mine p) refl
-    where
-      by : (b : Bool) → mine p ≡ b → mine p ≡ false
-      by true is =
-          let some = held p is in
-          absurd (omega arith)
-      by false is = is
+  none-of-them : (p : Partner) → sum (here (holds p)) (s .places) ≡ 0 → mine p ≡ false
+  none-of-them p absent = cases (mine p) (λ is. absurd (omega (arith, held p is))) (λ none. none)
 
   -- so it is sent nothing that counts
   newcomer-quiet : (p : Partner) (i k : ℕ) → seek p (s .places) ≡ Vacant i → count (otherFor mine) (act p k ∷ []) ≡ 0
@@ -113,16 +110,16 @@ module _ (s : State) (mine : Partner → Bool)
   -- a place of theirs is Connecting
   held-quiet : (p : Partner) (e : PartnerEvent) (k : Holding)
       → holdsIn p k ≡ true
-      → once (heldPast mine k) ≡ 0
+      → asBit (heldPast mine k) ≡ 0
       → (mine p && stirring e) ≡ false
       → count (otherFor mine) (map (act p) (numbers (holdingTurn (s .limits) k e))) ≡ 0
   held-quiet p e Free holding past calm = true-false false holding refl
   held-quiet p e (Held d ph q) holding past calm =
       count-sent mine other p (numbers (turn (s .limits) ph e))
-      ∙ by ph (mine p) (subst (λ r. once (mine r && not (isConnecting ph)) ≡ 0) (sym (same-eq p q holding)) past) calm
+      ∙ by ph (mine p) (subst (λ r. asBit (mine r && not (isConnecting ph)) ≡ 0) (sym (same-eq p q holding)) past) calm
     where
       by : (ph : Phase) (b : Bool)
-          → once (b && not (isConnecting ph)) ≡ 0
+          → asBit (b && not (isConnecting ph)) ≡ 0
           → (b && stirring e) ≡ false
           → cond b (passing other (numbers (turn (s .limits) ph e))) 0 ≡ 0
       by (Connecting t) true past calm = turn-quiet (s .limits) t e calm
@@ -162,34 +159,34 @@ module _ (s : State) (good : sound s ≡ true) (p : Partner) (i : ℕ) (d : Dire
     (place : getD (s .places) i vacant ≡ seat d (Connecting t) p) where
   -- has that place
   own-place : here (holds p) (getD (s .places) i vacant) ≡ 1
-  own-place = ap (here (holds p)) place ∙ ap once (same-refl p)
+  own-place = ap (here (holds p)) place ∙ ap asBit (same-refl p)
 
-  has-place : (q : Partner) → samePartner p q ≡ true → 1 ≤ weigh (here (holds q)) (s .places)
+  has-place : (q : Partner) → samePartner p q ≡ true → 1 ≤ sum (here (holds q)) (s .places)
   has-place q same =
       let one = own-place in
       let at = weigh-at (here (holds p)) (s .places) i below in
       rw (← same-eq p q same) (omega arith)
 
   -- and no other
-  no-other : weigh (here (placePast (samePartner p))) (s .places) ≡ 0
+  no-other : sum (here (placePast (samePartner p))) (s .places) ≡ 0
   no-other =
       let mine = samePartner p in
       let one = sound-facts s good .places .1 p in
       let own = own-place in
       let past : here (placePast mine) (getD (s .places) i vacant) ≡ 0 =
-      ap (here (placePast mine)) place ∙ ap (λ b. once (b && false)) (same-refl p) in
+      ap (here (placePast mine)) place ∙ ap (λ b. asBit (b && false)) (same-refl p) in
       let without = set (s .places) i vacant in
       let held = weigh-set (here (holds p)) (s .places) i vacant below in
       let other = weigh-set (here (placePast mine)) (s .places) i vacant below in
       let less = weigh-less (here (placePast mine)) (here (holds p)) (λ x. by (x .holding)) without in
       omega arith
     where
-      by-test : (b c : Bool) → once (b && c) ≤ once b
+      by-test : (b c : Bool) → asBit (b && c) ≤ asBit b
       by-test true true = omega arith
       by-test true false = omega arith
       by-test false c = omega arith
 
-      by : (k : Holding) → once (heldPast (samePartner p) k) ≤ once (holdsIn p k)
+      by : (k : Holding) → asBit (heldPast (samePartner p) k) ≤ asBit (holdsIn p k)
       by Free = omega arith
       by (Held e ph q) = by-test (samePartner p q) (not (isConnecting ph))
 

@@ -7,7 +7,7 @@ use Prim.Native.Nat.{ℕ, _≤_}
 use native.Mathlib.Omega.{arith}
 use lib.ListN.{length, getD}
 use Rattle.record.specs.Partners.{partnerOk, reserved, namedOk}
-use Rattle.record.specs.Records.{eventOk}
+use Rattle.record.specs.Ranges.{eventOk}
 use Rattle.record.specs.declared.partner.Partner.{Partner}
 use Rattle.record.specs.declared.event.Event.{Event}
 use Rattle.wire.proofs.Tests.{and-right, cond-holds, true-false}
@@ -28,7 +28,8 @@ use Rattle.unit.specs.States.{sound}
 use Rattle.unit.specs.Steps.{Outcome, act, actionsIn, closingActions, step}
 use Rattle.unit.specs.OnRecords.{onRecord}
 use Rattle.unit.specs.Concerns.{actionFor, heldBy, placeOf}
-use Rattle.unit.specs.Kept.{here, once, count}
+use Rattle.unit.specs.Kept.{here, count}
+use Rattle.wire.specs.Bytes.{asBit}
 use Rattle.unit.specs.Standings.{Concern}
 use Rattle.unit.specs.declared.last.Last.{Last}
 use Rattle.unit.specs.declared.last.Last.the-variants.{Known}
@@ -55,7 +56,7 @@ recalled-none last (a ∷ acts) none = by (toRbc a) (omega arith) (recalled-none
     own : Last
     own = Known (a .partner .high) (a .partner .middle) (a .partner .low)
 
-    by : (b : Bool) → once b ≡ 0 → recalled last acts ≡ last → recalled (cond b own last) acts ≡ last
+    by : (b : Bool) → asBit b ≡ 0 → recalled last acts ≡ last → recalled (cond b own last) acts ≡ last
     by true none rest = absurd (omega arith)
     by false none rest = rest
 
@@ -118,13 +119,13 @@ unreserved p ok = by (reserved p) (and-right (partnerOk p) (not (reserved p)) ok
 reserved-bad : (l : Limits) (place : Place) → here (placeOf reserved) place ≤ bad l place
 reserved-bad l place = by (place .holding)
   where
-    by-test : (a b c : Bool) → once b ≤ cond ((a && not b) && c) 0 1
+    by-test : (a b c : Bool) → asBit b ≤ cond ((a && not b) && c) 0 1
     by-test true true c = omega arith
     by-test true false c = cond-holds (λ w. 0 ≤ w) c 0 1 (omega arith) (omega arith)
     by-test false true c = omega arith
     by-test false false c = omega arith
 
-    by : (k : Holding) → once (heldBy reserved k) ≤ bad l (record { holding = k })
+    by : (k : Holding) → asBit (heldBy reserved k) ≤ bad l (record { holding = k })
     by Free = omega arith
     by (Held d ph p) = by-test (partnerOk p) (reserved p) (phaseOk l ph && fits d ph p)
 

@@ -23,7 +23,8 @@ use Rattle.place.specs.declared.turn.Closing.the-variants.{Every}
 use Rattle.unit.specs.Lasts.{meant}
 use Rattle.unit.specs.States.{seek, standing}
 use Rattle.unit.specs.Steps.{refusedAt, refused, done, act, withMarks, withMission, markHole, holeTaken, inForce}
-use Rattle.unit.specs.Steps.{closePlaces, admitted, orderedAt, calledAt, turnedAt, turned, namedAt, step, orderedTo}
+use Rattle.unit.specs.Steps.{closePlaces, orderedAt, calledAt, turnedAt, step}
+use Rattle.unit.specs.Searching.{admitted, turned, namedAt, orderedTo}
 use Rattle.unit.specs.Forms.{mostActions, noAction, listed}
 use Rattle.unit.specs.Changes.{pushed, pushAll}
 use Rattle.unit.specs.declared.state.State.{State}
@@ -31,6 +32,7 @@ use Rattle.unit.specs.declared.search.Found.{Found}
 use Rattle.unit.specs.declared.search.Found.the-variants.{At}
 use Rattle.unit.specs.declared.answer.Action.{Action}
 use Rattle.unit.specs.declared.answer.Actions.{Actions}
+use Rattle.unit.proofs.ByFound.{order-found, call-found, named-found}
 
 module _ (s : State) where
   pub hole-is : (entered b : Bool)
@@ -51,9 +53,9 @@ module _ (s : State) where
       → inForce cause (s .train) (s .marks) ≡ b
       → meant (s .last) p ≡ q
       → step s (Order p accepting cause) ≡ cond b (orderedTo s q accepting cause) (refused refusal.notInForce s)
-  unfolding step
   order-is p q accepting cause b test whom =
-      ap₂ (λ t r. cond t (orderedTo s r accepting cause) (refused refusal.notInForce s)) test whom
+      order-found s p accepting cause
+      ∙ ap₂ (λ t r. cond t (orderedTo s r accepting cause) (refused refusal.notInForce s)) test whom
 
   pub ordered-is : (p : Partner) (accepting : Bool) (cause : Cause) (b : Bool) (found : Found)
       → reserved p ≡ b
@@ -66,15 +68,14 @@ module _ (s : State) where
       → isRbc p ≡ b
       → seek p (s .places) ≡ found
       → step s (Call p) ≡ cond b (admitted s (calledAt s p) found) (refused refusal.callFromRiu s)
-  unfolding step
   call-is p b found test search =
-      ap₂ (λ t f. cond t (admitted s (calledAt s p) f) (refused refusal.callFromRiu s)) test search
+      call-found s p
+      ∙ ap₂ (λ t f. cond t (admitted s (calledAt s p) f) (refused refusal.callFromRiu s)) test search
 
   pub named-is : (p : Partner) (e : PartnerEvent) (found : Found)
       → seek p (s .places) ≡ found
       → step s (Named p e) ≡ namedAt s p e found
-  unfolding step
-  named-is p e found search = ap (namedAt s p e) search
+  named-is p e found search = named-found s p e ∙ ap (namedAt s p e) search
 
   pub turned-is : (i : ℕ) (ph : Phase) (p : Partner) (t : Turn) (b : Bool)
       → takes t ≡ b

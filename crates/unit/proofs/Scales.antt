@@ -1,5 +1,5 @@
 -- A scale: what a held place weighs by its phase, which actions count, and what an accepted event brings.
--- A balanced scale is one that every closing and every cell of the phase table keeps to; the partner plays no part in that.
+-- A balanced scale is one that every closing and every entry of the phase table keeps to; the partner plays no part in that.
 -- Defines: Scale, sent, next, Turned, brings, Balanced, weightIn, weightOf, counted.
 -- Proves: looked-at, place-account, held-account, closedBy-account, turns-by-row, again-turned.
 use mathlib.Core.Path.{_≡_, refl, sym}
@@ -16,7 +16,7 @@ use Rattle.wire.proofs.Tests.{cond-case, cond-holds, true-false}
 use Rattle.record.proofs.Partners.{same-eq}
 use Rattle.place.specs.Places.{tries, seat}
 use Rattle.place.proofs.Holdings.{holdsIn, holdingTurn, holdingClosedBy}
-use Rattle.place.specs.Table.{request, established, firstTry, refuse, table, column, closing, oneMore, again, versionOf, play}
+use Rattle.place.specs.Table.{request, established, firstTry, table, column, closing, oneMore, again, versionOf}
 use Rattle.place.specs.Table.{closes, numbers, turn, placeAfter, closedBy}
 use Rattle.place.specs.declared.phase.Phase.{Phase}
 use Rattle.place.specs.declared.phase.Phase.the-variants.{Connecting, Open}
@@ -29,7 +29,9 @@ use Rattle.place.specs.declared.turn.Turn.{Turn}
 use Rattle.place.specs.declared.turn.Turn.the-variants.{Stays, Released, Becomes, Sends, SendsBoth}
 use Rattle.place.specs.declared.turn.Closing.{Closing}
 use Rattle.unit.specs.Steps.{act, actionsIn, closed, closingActions}
-use Rattle.unit.specs.Kept.{count, once, weigh}
+use Rattle.unit.specs.Kept.{count}
+use Rattle.wire.specs.Bytes.{asBit}
+use Rattle.wire.specs.Sums.{sum}
 use Rattle.unit.specs.declared.answer.Action.{Action}
 use Rattle.unit.proofs.Counts.{passing, nothing, count-append, count-sent}
 use Rattle.unit.proofs.Rows.{Beside, beside-at}
@@ -68,8 +70,8 @@ brings σ e = getD (σ .columns) (column e) 0
 
 -- the accounts of a taking in, of every closing and of every turn
 pub record Balanced (m : Sense) (l : Limits) (σ : Scale) : Type 0 where
-  pub ordered : Balance m (once (σ .counts request) + σ .weight (Connecting firstTry)) (σ .order)
-  pub called : Balance m (once (σ .counts established) + σ .weight Open) (σ .call)
+  pub ordered : Balance m (asBit (σ .counts request) + σ .weight (Connecting firstTry)) (σ .order)
+  pub called : Balance m (asBit (σ .counts established) + σ .weight Open) (σ .call)
   pub closings : (ph : Phase) → Turned m σ ph 0 (closing ph)
   pub turns : (ph : Phase) (e : PartnerEvent) → Turned m σ ph (brings σ e) (turn l ph e)
 
@@ -141,22 +143,22 @@ module _ (m : Sense) (σ : Scale) (mine : Partner → Bool) where
 
     -- and of all that are due
     pub closedBy-account : (which : Closing) (ps : List Place)
-        → Balance m (count (counted σ mine) (closingActions which ps) + weigh (weightOf σ mine) (closed which ps))
-        (weigh (weightOf σ mine) ps + 0)
-    unfolding count closed closingActions weigh
+        → Balance m (count (counted σ mine) (closingActions which ps) + sum (weightOf σ mine) (closed which ps))
+        (sum (weightOf σ mine) ps + 0)
+    unfolding count closed closingActions sum
     closedBy-account which [] = level m (0 + 0) (0 + 0) refl
     closedBy-account which (p ∷ ps) =
         rw (count-append (counted σ mine) (actionsIn (p .holding) (closedBy which p)) (closingActions which ps))
         (joined m _ _ _ _ _ _ 0 0 (closedBy-place which (p .holding)) (closedBy-account which ps))
 
 module _ (m : Sense) (l : Limits) (σ : Scale) where
-  -- a law of every turn is one of every cell of every row, beside what its column brings
-  pub turns-by-row : ((ph : Phase) (v : ℕ) → Beside (λ c b. Turned m σ ph b (play l ph v c)) (table ph) (σ .columns))
+  -- a law of every turn is one of every entry of every row, beside what its column brings
+  pub turns-by-row : ((ph : Phase) (v : ℕ) → Beside (λ t b. Turned m σ ph b t) (table l v ph) (σ .columns))
       → (ph : Phase) (e : PartnerEvent)
       → Turned m σ ph (brings σ e) (turn l ph e)
   unfolding turn
   turns-by-row row ph e =
-      beside-at (λ c b. Turned m σ ph b (play l ph (versionOf e) c)) (table ph) (σ .columns) refuse (row ph (versionOf e))
+      beside-at (λ t b. Turned m σ ph b t) (table l (versionOf e) ph) (σ .columns) Stays (row ph (versionOf e))
       (level m (0 + σ .weight ph) (σ .weight ph + 0) (omega arith))
       (column e)
 

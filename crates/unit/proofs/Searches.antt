@@ -1,6 +1,6 @@
 -- What a search finds, for any test and any number of places.
 -- Defines: FoundOk, SearchedTo.
--- Proves: first-passes, first-lowest, first-none, none-first, some-first, none-some, some-none, seek-ok, found-ok, seek-lowest,
+-- Proves: first-passes, first-lowest, first-none, none-first, ltb-suc, some-first, none-some, some-none, seek-ok, found-ok, seek-lowest,
 -- searched-more, searched-found, searched-none, seek-at, seek-vacant, seek-full.
 use mathlib.Core.Path.{_≡_, refl, sym, ap, ap₂, subst, subst⁻¹, _∙_}
 use mathlib.Core.Bool.{Bool, true, false, cond, _||_, not, true≢false}
@@ -13,6 +13,7 @@ use lib.Dec.{ltb}
 use lib.ListN.{length, getD, drop, drop-of-length-le}
 use lib.Seq.{drop-cons}
 use borrow.Author.Tests.{ltb-true, ltb-false, lt-ltb, le-ltb}
+use borrow.Table.Steps.{cases}
 use Rattle.record.specs.declared.partner.Partner.{Partner}
 use Rattle.wire.proofs.Tests.{cond-case}
 use Rattle.place.specs.Places.{vacant, isFree, heldPhase, holds}
@@ -21,7 +22,9 @@ use Rattle.place.specs.declared.place.Place.{Place}
 use Rattle.unit.specs.States.{some, first, seek}
 use Rattle.unit.specs.declared.search.Found.{Found}
 use Rattle.unit.specs.declared.search.Found.the-variants.{At, Vacant, Full}
-use Rattle.unit.specs.Kept.{here, once, weigh}
+use Rattle.unit.specs.Kept.{here}
+use Rattle.wire.specs.Bytes.{asBit}
+use Rattle.wire.specs.Sums.{sum}
 
 -- the place found passes
 pub first-passes : (test : Place → Bool) (ps : List Place)
@@ -48,40 +51,36 @@ first-lowest test (p ∷ ps) (suc i) =
     (λ fails below. first-lowest test ps i (le-of-suc-le-suc below))
 
 -- where none is found, none passes
-pub first-none : (test : Place → Bool) (ps : List Place) → length ps ≤ first test ps → weigh (here test) ps ≡ 0
-unfolding first weigh
+pub first-none : (test : Place → Bool) (ps : List Place) → length ps ≤ first test ps → sum (here test) ps ≡ 0
+unfolding first sum
 first-none test [] = λ h. refl
 first-none test (p ∷ ps) =
-    cond-case (λ k. suc (length ps) ≤ k → here test p + weigh (here test) ps ≡ 0) (test p) 0 (suc (first test ps))
+    cond-case (λ k. suc (length ps) ≤ k → here test p + sum (here test) ps ≡ 0) (test p) 0 (suc (first test ps))
     (λ passes h. absurd (omega arith))
     (λ fails h.
-    let first-fails : here test p ≡ 0 = ap once fails in
+    let first-fails : here test p ≡ 0 = ap asBit fails in
     let rest = first-none test ps (le-of-suc-le-suc h) in
     omega arith)
 
 -- where none passes, none is found
-pub none-first : (test : Place → Bool) (ps : List Place) → weigh (here test) ps ≡ 0 → length ps ≤ first test ps
-unfolding first weigh
+pub none-first : (test : Place → Bool) (ps : List Place) → sum (here test) ps ≡ 0 → length ps ≤ first test ps
+unfolding first sum
 none-first test [] h = omega arith
 none-first test (p ∷ ps) h =
     cond-case (λ k. suc (length ps) ≤ k) (test p) 0 (suc (first test ps))
     (λ passes.
-    let first-passes : here test p ≡ 1 = ap once passes in
+    let first-passes : here test p ≡ 1 = ap asBit passes in
     absurd (omega arith))
     (λ fails.
     let rest = none-first test ps (omega arith) in
     omega arith)
 
-ltb-suc : (a b : ℕ) → ltb a b ≡ ltb (suc a) (suc b)
-ltb-suc a b = by (ltb a b) refl
-  where
-    by : (x : Bool) → ltb a b ≡ x → ltb a b ≡ ltb (suc a) (suc b)
-    by true e =
-        let below = ltb-true a b e in
-        e ∙ sym (lt-ltb (suc a) (suc b) (omega arith))
-    by false e =
-        let above = ltb-false a b e in
-        e ∙ sym (le-ltb (suc a) (suc b) (omega arith))
+-- numbers that follow two others stand as they do
+pub ltb-suc : (a b : ℕ) → ltb a b ≡ ltb (suc a) (suc b)
+ltb-suc a b =
+    cases (ltb a b)
+    (λ e. e ∙ sym (lt-ltb (suc a) (suc b) (omega (arith, ltb-true a b e))))
+    (λ e. e ∙ sym (le-ltb (suc a) (suc b) (omega (arith, ltb-false a b e))))
 
 -- some place passes where the number of the lowest that does is below the number of places
 pub some-first : (test : Place → Bool) (ps : List Place) → some test ps ≡ ltb (first test ps) (length ps)
@@ -121,8 +120,8 @@ seek-first p ps =
 -- what the search for a partner's place says
 abbrev pub FoundOk : Partner → List Place → Found → Type 0
 FoundOk p ps (At i ph) = (i < length ps) × (holds p (getD ps i vacant) ≡ true) × (heldPhase (getD ps i vacant) ≡ ph)
-FoundOk p ps (Vacant i) = (i < length ps) × (isFree (getD ps i vacant) ≡ true) × (weigh (here (holds p)) ps ≡ 0)
-FoundOk p ps Full = (weigh (here isFree) ps ≡ 0) × (weigh (here (holds p)) ps ≡ 0)
+FoundOk p ps (Vacant i) = (i < length ps) × (isFree (getD ps i vacant) ≡ true) × (sum (here (holds p)) ps ≡ 0)
+FoundOk p ps Full = (sum (here isFree) ps ≡ 0) × (sum (here (holds p)) ps ≡ 0)
 
 pub seek-ok : (p : Partner) (ps : List Place) → FoundOk p ps (seek p ps)
 seek-ok p ps =

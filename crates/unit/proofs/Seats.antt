@@ -12,7 +12,7 @@ use Rattle.record.specs.declared.event.PartnerEvent.{PartnerEvent}
 use Rattle.record.specs.declared.event.PartnerEvent.the-variants.{Drop, Up, Loss, Timeout, Version, Ended}
 use Rattle.place.specs.Places.{holds}
 use Rattle.place.proofs.Holdings.{holdsIn}
-use Rattle.place.specs.Table.{release, table, closing, play}
+use Rattle.place.specs.Table.{release, table, closing}
 use Rattle.place.specs.declared.phase.Phase.{Phase}
 use Rattle.place.specs.declared.phase.Phase.the-variants.{Connecting, Contacting, Open, Lost, Ending}
 use Rattle.place.specs.declared.place.Holding.{Holding}
@@ -23,7 +23,9 @@ use Rattle.place.proofs.ByRow.{judged-case}
 use Rattle.unit.specs.Concerns.{takesIn, heldBy, placeOf}
 use Rattle.unit.specs.Standings.{Concern, nobody, orderTo, callOf, naming}
 use Rattle.unit.proofs.Weights.{weigh-same}
-use Rattle.unit.specs.Kept.{here, once, weigh}
+use Rattle.unit.specs.Kept.{here}
+use Rattle.wire.specs.Bytes.{asBit}
+use Rattle.wire.specs.Sums.{sum}
 use Rattle.unit.proofs.Counts.{nothing}
 use Rattle.unit.proofs.Rows.{_▹_, Beside}
 use Rattle.unit.proofs.Balances.{exactly}
@@ -50,8 +52,8 @@ module _ (l : Limits) where
   closings (Lost t) = refl
   closings (Ending t) = refl
 
-  -- so does every cell of the table
-  rows : (ph : Phase) (v : ℕ) → Beside (λ c b. Turned exactly seats ph b (play l ph v c)) (table ph) (seats .columns)
+  -- so does every entry of the table
+  rows : (ph : Phase) (v : ℕ) → Beside (λ t b. Turned exactly seats ph b t) (table l v ph) (seats .columns)
   rows (Connecting t) v =
       refl ▹ refl ▹ refl ▹ again-turned exactly l seats 21 (Connecting t) 0 (λ more. refl) (λ last. refl) ▹ refl ▹ refl ▹ tt
   rows (Contacting t) v =
@@ -73,15 +75,15 @@ module _ (l : Limits) where
 
 module _ (mine : Partner → Bool) where
   -- what weighs is the places that these partners have
-  pub seats-weigh : (ps : List Place) → total seats mine ps ≡ weigh (here (placeOf mine)) ps
+  pub seats-weigh : (ps : List Place) → total seats mine ps ≡ sum (here (placeOf mine)) ps
   seats-weigh = weigh-same (weightOf seats mine) (here (placeOf mine)) (λ place. by (place .holding))
     where
-      by : (k : Holding) → weightIn seats mine k ≡ once (heldBy mine k)
+      by : (k : Holding) → weightIn seats mine k ≡ asBit (heldBy mine k)
       by Free = refl
       by (Held d ph p) = refl
 
   -- and what is brought is the partner taken in
-  pub seats-brought : (c : Concern) → broughtTo seats mine c ≡ once (takesIn mine c)
+  pub seats-brought : (c : Concern) → broughtTo seats mine c ≡ asBit (takesIn mine c)
   seats-brought nobody = refl
   seats-brought (orderTo p) = refl
   seats-brought (callOf p) = refl
@@ -96,9 +98,9 @@ module _ (mine : Partner → Bool) where
       by Ended = nothing (mine p)
 
 -- a partner's places are those that hold it
-pub own-places : (p : Partner) (ps : List Place) → weigh (here (placeOf (samePartner p))) ps ≡ weigh (here (holds p)) ps
+pub own-places : (p : Partner) (ps : List Place) → sum (here (placeOf (samePartner p))) ps ≡ sum (here (holds p)) ps
 own-places p = weigh-same (here (placeOf (samePartner p))) (here (holds p)) (λ place. by (place .holding))
   where
-    by : (k : Holding) → once (heldBy (samePartner p) k) ≡ once (holdsIn p k)
+    by : (k : Holding) → asBit (heldBy (samePartner p) k) ≡ asBit (holdsIn p k)
     by Free = refl
     by (Held d ph q) = refl

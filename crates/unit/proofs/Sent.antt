@@ -28,7 +28,9 @@ use Rattle.unit.specs.States.{nowhere}
 use Rattle.unit.specs.Steps.{Outcome, refusedAt, refused, act, actionsIn, closingActions, step}
 use Rattle.unit.specs.Concerns.{takesIn, actionFor, releaseFor, heldBy, placeOf}
 use Rattle.unit.specs.Standings.{Concern, nobody, orderTo, callOf, naming, concern, concernOf}
-use Rattle.unit.specs.Kept.{count, here, once, weigh}
+use Rattle.unit.specs.Kept.{count, here}
+use Rattle.wire.specs.Bytes.{asBit}
+use Rattle.wire.specs.Sums.{sum}
 use Rattle.unit.specs.OnRecords.{onRecord}
 use Rattle.unit.specs.declared.state.State.{State}
 use Rattle.unit.specs.declared.search.Found.the-variants.{Vacant}
@@ -45,14 +47,14 @@ use Rattle.unit.proofs.Seats.{seats, seats-balanced, seats-weigh, seats
 -- the releases of these partners and the places that they have are the places that they had, and one more where one is taken in
 abbrev pub Conserved : (Partner → Bool) → State → Concern → Outcome → Type 0
 Conserved mine s c o =
-    count (releaseFor mine) (o .actions) + weigh (here (placeOf mine)) (o .state .places)
-    ≡ weigh (here (placeOf mine)) (s .places) + once (eqb (o .code) refusal.accepted && takesIn mine c)
+    count (releaseFor mine) (o .actions) + sum (here (placeOf mine)) (o .state .places)
+    ≡ sum (here (placeOf mine)) (s .places) + asBit (eqb (o .code) refusal.accepted && takesIn mine c)
 
 -- the most actions for these partners in a step: one for each place of theirs that may be closed, the order's own; the call's own; two
 abbrev pub mostFor : (Partner → Bool) → List Place → Concern → ℕ
-mostFor mine ps nobody = weigh (here (placeOf mine)) ps
-mostFor mine ps (orderTo p) = weigh (here (placeOf mine)) ps + once (mine p)
-mostFor mine ps (callOf p) = once (mine p)
+mostFor mine ps nobody = sum (here (placeOf mine)) ps
+mostFor mine ps (orderTo p) = sum (here (placeOf mine)) ps + asBit (mine p)
+mostFor mine ps (callOf p) = asBit (mine p)
 mostFor mine ps (naming p e) = cond (mine p) 2 0
 
 -- less of one partner's actions is less where that partner is looked at
@@ -69,7 +71,7 @@ module _ (s : State) (mine : Partner → Bool) where
       let brought = ap (λ b. cond ok b 0) (seats-brought mine c) ∙ by ok (takesIn mine c) in
       omega arith
     where
-      by : (a b : Bool) → cond a (once b) 0 ≡ once (a && b)
+      by : (a b : Bool) → cond a (asBit b) 0 ≡ asBit (a && b)
       by true b = refl
       by false b = refl
 
@@ -84,16 +86,17 @@ module _ (s : State) (mine : Partner → Bool) where
       step-releases
 
   -- a closing has at most one action for each place of theirs
-  closedBy-for : (which : Closing) (k : Holding) → count (actionFor mine) (actionsIn k (holdingClosedBy which k)) ≤ once (heldBy mine k)
+  closedBy-for : (which : Closing) (k : Holding)
+      → count (actionFor mine) (actionsIn k (holdingClosedBy which k)) ≤ asBit (heldBy mine k)
   unfolding count
   closedBy-for which Free = omega arith
   closedBy-for which (Held d ph p) =
-      cond-holds (λ t. count (actionFor mine) (map (act p) (numbers t)) ≤ once (mine p)) (closes which ph p) (closing ph) Stays
+      cond-holds (λ t. count (actionFor mine) (map (act p) (numbers t)) ≤ asBit (mine p)) (closes which ph p) (closing ph) Stays
       (rw (count-one mine p (numbers (closing ph))) (cond-most (mine p) (length (numbers (closing ph))) 1 (closing-few ph)))
       (omega arith)
 
   pub closingActions-for : (which : Closing)
-      → count (actionFor mine) (closingActions which (s .places)) ≤ weigh (here (placeOf mine)) (s .places)
+      → count (actionFor mine) (closingActions which (s .places)) ≤ sum (here (placeOf mine)) (s .places)
   closingActions-for which =
       closingActions-most (actionFor mine) (here (placeOf mine)) which (λ place. closedBy-for which (place .holding)) (s .places)
 

@@ -2,7 +2,7 @@
 -- every step.
 -- Defines: StepRefusal, RecordRefusal, InRange, ToldOf, Told, Shape.
 -- Proves: step-numbered, told-none, shape, by-reading, on-record, by-concern.
-use mathlib.Core.Path.{_≡_, refl, sym, ap}
+use mathlib.Core.Path.{_≡_, refl, sym, ap, subst}
 use mathlib.Core.Logic.{_⊎_, inl, inr}
 use mathlib.Core.Bool.{Bool, true, false, _&&_, not}
 use mathlib.Core.List.{List, []}
@@ -11,8 +11,9 @@ use native.Mathlib.Omega.{arith}
 use lib.Dec.{leb, eqb}
 use lib.ListN.{getD}
 use borrow.Author.Tests.{leb-true}
-use Rattle.record.specs.Partners.{isRbc, partnerOk, reserved, namedOk}
-use Rattle.record.specs.Records.{eventOk, partnerEventOk, highestLevel, missionUnderWay, missionEnded, reading, readingOk}
+use Rattle.record.specs.Partners.{isRbc, partnerOk, namedOk}
+use Rattle.record.specs.Records.{highestLevel, missionUnderWay, missionEnded, reading}
+use Rattle.record.specs.Ranges.{eventOk, partnerEventOk, readingOk}
 use Rattle.wire.specs.Refusals as refusal
 use Rattle.record.specs.declared.partner.Partner.{Partner}
 use Rattle.record.specs.declared.event.Cause.{Cause}
@@ -37,8 +38,9 @@ use Rattle.place.specs.declared.turn.Closing.the-variants.{Every}
 use Rattle.unit.specs.Lasts.{meant}
 use Rattle.unit.proofs.Meant.{meant-named}
 use Rattle.unit.specs.States.{seek, nowhere, standing, trainOk, marksOk, sound}
-use Rattle.unit.specs.Steps.{Outcome, refusedAt, refused, done, withTrain, withMarks, markHole, holeTaken, inForce}
-use Rattle.unit.specs.Steps.{spend, displaced, closePlaces, takenIn, admitted, orderedAt, calledAt, turnedAt, namedAt, step}
+use Rattle.unit.specs.Steps.{Outcome, refusedAt, refused, done, withTrain, withMarks, markHole, holeTaken}
+use Rattle.unit.specs.Steps.{spend, displaced, closePlaces, takenIn, orderedAt, calledAt, turnedAt, step}
+use Rattle.unit.specs.Searching.{admitted, namedAt}
 use Rattle.unit.specs.Standings.{Numbered, Concern, nobody, orderTo, callOf, naming, concern, concernOf}
 use Rattle.unit.specs.OnRecords.{actionRoom, onReading, onRecord}
 use Rattle.unit.specs.declared.state.Train.{Train}
@@ -48,6 +50,7 @@ use Rattle.unit.specs.declared.search.Found.{Found}
 use Rattle.unit.specs.declared.search.Found.the-variants.{At, Vacant, Full}
 use Rattle.unit.specs.declared.search.Standing.{Standing}
 use Rattle.unit.proofs.Searches.{found-ok}
+use Rattle.unit.proofs.ByFound.{order-by, call-by, named-found}
 
 -- the numbers with which a step on an event may be refused, 4 to 9 and 15
 abbrev pub StepRefusal : ℕ → Type 0
@@ -218,23 +221,19 @@ module _ (s : State) where
       (λ other. refuses refusal.notTaken (inl (omega arith)) refl)
   shape (Order p accepting cause) =
       let q = meant (s .last) p in
-      cond-case (Shape s (Order p accepting cause) (orderTo q)) (inForce cause (s .train) (s .marks)) _ _
-      (λ in-force.
-      cond-case (Shape s (Order p accepting cause) (orderTo q)) (reserved q) _ _
-      (λ unknown.
-      refuses refusal.noneKnown (inr refl) (told-none (s .places) (orderTo q) refusal.noneKnown (λ h. omega arith) (λ h. omega arith)))
-      (λ known. ordered-shape p q accepting cause (meant-named (s .last) p known) (seek q (s .places)) refl))
-      (λ other.
-      refuses refusal.notInForce (inl (omega arith))
+      order-by s p accepting cause (Shape s (Order p accepting cause) (orderTo q))
+      (λ in-force known. ordered-shape p q accepting cause (meant-named (s .last) p known) (seek q (s .places)) refl)
+      (refuses refusal.noneKnown (inr refl) (told-none (s .places) (orderTo q) refusal.noneKnown (λ h. omega arith) (λ h. omega arith)))
+      (refuses refusal.notInForce (inl (omega arith))
       (told-none (s .places) (orderTo q) refusal.notInForce (λ h. omega arith) (λ h. omega arith)))
   shape EndAll = closesEvery (s .train) (λ train marks ok. (train, marks))
   shape (Call p) =
-      cond-case (Shape s (Call p) (callOf p)) (isRbc p) _ _
+      call-by s p (Shape s (Call p) (callOf p))
       (λ rbc. called-shape p rbc (seek p (s .places)) refl)
-      (λ riu.
-      refuses refusal.callFromRiu (inl (omega arith))
+      (refuses refusal.callFromRiu (inl (omega arith))
       (told-none (s .places) (callOf p) refusal.callFromRiu (λ h. omega arith) (λ h. omega arith)))
-  shape (Named p e) = named-shape p e (seek p (s .places)) refl
+  shape (Named p e) =
+      subst (Shape s (Named p e) (naming p e)) (sym (named-found s p e)) (named-shape p e (seek p (s .places)) refl)
 
   -- a law of a step on a record, by what the record and the state are refused for
   pub by-reading : (P : Outcome → Type 0) (bytes : List ℕ) (room : ℕ)

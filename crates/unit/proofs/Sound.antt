@@ -9,7 +9,7 @@ use lib.Dec.{leb}
 use lib.ListN.{length, getD, set, length-set}
 use borrow.Author.Tests.{le-leb}
 use Rattle.record.specs.Partners.{isRbc, namedOk}
-use Rattle.record.specs.Records.{eventOk}
+use Rattle.record.specs.Ranges.{eventOk}
 use Rattle.record.specs.declared.partner.Partner.{Partner}
 use Rattle.record.specs.declared.event.Event.{Event}
 use Rattle.wire.proofs.Tests.{and-both}
@@ -36,7 +36,8 @@ use Rattle.unit.specs.declared.state.State.{State}
 use Rattle.unit.specs.declared.search.Found.the-variants.{Vacant}
 use Rattle.unit.proofs.Shapes.{Shape, refuses, notes, closesEvery, orders, calls, turns, shape, on-record}
 use Rattle.unit.proofs.Weights.{length-closed}
-use Rattle.unit.specs.Kept.{here, weigh}
+use Rattle.unit.specs.Kept.{here}
+use Rattle.wire.specs.Sums.{sum}
 use Rattle.unit.proofs.Searches.{found-ok}
 use Rattle.unit.proofs.Facts.{PlacesFacts, Facts, limits-tries, sound-facts, facts-sound}
 use Rattle.unit.proofs.Facts.{set-facts, take-facts, closed-here, closedBy-facts, place-at}
@@ -62,7 +63,7 @@ module _ (s : State) (f : Facts s) where
       → PlacesFacts (s .limits) ps
       → i < length (s .places)
       → placeOk (s .limits) (seat d ph p) ≡ true
-      → weigh (here (holds p)) ps ≡ 0
+      → sum (here (holds p)) ps ≡ 0
       → lastOk last ≡ true
       → Facts (record { limits = s .limits; train = s .train; marks = m; places = set ps i (seat d ph p); last = last })
   seated m ps last i d ph p marks same facts below good absent known =

@@ -28,7 +28,9 @@ use Rattle.place.specs.declared.turn.Closing.{Closing}
 use Rattle.place.specs.declared.turn.Closing.the-variants.{Every}
 use Rattle.unit.specs.Steps.{Outcome, refused, act, closed, closingActions, step}
 use Rattle.unit.specs.Standings.{Concern, nobody, orderTo, callOf, naming, concern}
-use Rattle.unit.specs.Kept.{count, once, weigh}
+use Rattle.unit.specs.Kept.{count}
+use Rattle.wire.specs.Bytes.{asBit}
+use Rattle.wire.specs.Sums.{sum}
 use Rattle.unit.specs.declared.state.State.{State}
 use Rattle.unit.specs.declared.search.Found.the-variants.{Vacant}
 use Rattle.unit.proofs.Shapes.{Shape, refuses, notes, closesEvery, orders, calls, turns, shape, step-numbered}
@@ -40,7 +42,7 @@ use Rattle.unit.proofs.Scales.{Scale, Balanced, brings, weightIn, weigh
 
 -- all places weighed
 abbrev pub total : Scale → (Partner → Bool) → List Place → ℕ
-total σ mine ps = weigh (weightOf σ mine) ps
+total σ mine ps = sum (weightOf σ mine) ps
 
 -- what an event brings where it is accepted, by whom it concerns
 abbrev pub broughtTo : Scale → (Partner → Bool) → Concern → ℕ
@@ -77,7 +79,7 @@ module _ (m : Sense) (σ : Scale) (mine : Partner → Bool) where
   taken-account : (ps : List Place) (i k b : ℕ) (d : Direction) (ph : Phase) (p : Partner)
       → i < length ps
       → isFree (getD ps i vacant) ≡ true
-      → Balance m (once (σ .counts k) + σ .weight ph) b
+      → Balance m (asBit (σ .counts k) + σ .weight ph) b
       → Balance m (count (counted σ mine) (act p k ∷ []) + total σ mine (set ps i (seat d ph p)))
       (total σ mine ps + cond (mine p) b 0)
   unfolding count
@@ -86,8 +88,8 @@ module _ (m : Sense) (σ : Scale) (mine : Partner → Bool) where
       stored m _ (weightOf σ mine x) (weightOf σ mine (getD ps i vacant)) _ _ _ (weigh-set (weightOf σ mine) ps i x below)
       (opened m _ _ _ (free-light σ mine (getD ps i vacant .holding) free) (by (mine p)))
     where
-      by : (x : Bool) → Balance m ((once (x && σ .counts k) + 0) + cond x (σ .weight ph) 0) (cond x b 0)
-      by true = moved m (once (σ .counts k) + σ .weight ph) b _ _ (omega arith) refl h
+      by : (x : Bool) → Balance m ((asBit (x && σ .counts k) + 0) + cond x (σ .weight ph) 0) (cond x b 0)
+      by true = moved m (asBit (σ .counts k) + σ .weight ph) b _ _ (omega arith) refl h
       by false = level m ((0 + 0) + 0) 0 refl
 
   module _ (s : State) (balanced : Balanced m (s .limits) σ) where

@@ -10,6 +10,7 @@ use lib.Dec.{leb, ltb}
 use lib.ListN.{length, getD, drop, length-drop, drop-of-length-le}
 use lib.Seq.{drop-cons}
 use borrow.Author.Tests.{leb-true, le-leb, eq-eqb, ltb-true, ltb-false, lt-leb}
+use borrow.Table.Steps.{cases}
 use Rattle.record.specs.declared.partner.Partner.{Partner}
 use Rattle.wire.proofs.Tests.{true-false}
 use Rattle.place.specs.Places.{vacant, holds, placeOk}
@@ -35,11 +36,10 @@ leb-same a b c d to from = by (leb a b) refl (leb c d) refl
     by false e false g = e ∙ sym g
 
 not-ltb : (a b : ℕ) → not (ltb a b) ≡ leb b a
-not-ltb a b = by (ltb a b) refl
-  where
-    by : (x : Bool) → ltb a b ≡ x → not (ltb a b) ≡ leb b a
-    by true e = ap not e ∙ sym (lt-leb b a (ltb-true a b e))
-    by false e = ap not e ∙ sym (le-leb b a (ltb-false a b e))
+not-ltb a b =
+    cases (ltb a b)
+    (λ e. ap not e ∙ sym (lt-leb b a (ltb-true a b e)))
+    (λ e. ap not e ∙ sym (le-leb b a (ltb-false a b e)))
 
 -- a search from the next place on that comes to the end found none
 pub absent-by : (ps : List Place) (i : ℕ) (k : Holding) (d : Direction) (ph : Phase) (p : Partner) (r : ℕ)

@@ -10,7 +10,7 @@ use Rattle.record.specs.declared.event.PartnerEvent.{PartnerEvent}
 use Rattle.wire.specs.Refusals.{notTaken}
 use Rattle.wire.proofs.Tests.{cond-holds, All}
 use Rattle.place.specs.Places.{vacant, heldPhase, tries}
-use Rattle.place.specs.Table.{again, oneMore, play, table, turn, numbers, placeAfter, turnedTo}
+use Rattle.place.specs.Table.{again, oneMore, table, turn, numbers, placeAfter, turnedTo}
 use Rattle.place.proofs.ByRow.{by-row, judged-case}
 use Rattle.place.specs.declared.phase.Phase.{Phase}
 use Rattle.place.specs.declared.phase.Phase.the-variants.{Connecting, Contacting, Open, Lost, Ending}
@@ -20,7 +20,8 @@ use Rattle.place.specs.declared.turn.Turn.{Turn}
 use Rattle.place.specs.declared.turn.Turn.the-variants.{Released, Sends}
 use Rattle.place.specs.declared.turn.Turned.{Turned}
 use Rattle.unit.specs.States.{standing}
-use Rattle.unit.specs.Steps.{Outcome, act, refusedAt, setAt, turned}
+use Rattle.unit.specs.Steps.{Outcome, act, refusedAt, setAt}
+use Rattle.unit.specs.Searching.{turned}
 use Rattle.unit.specs.Changes.{given}
 use Rattle.unit.specs.declared.state.State.{State}
 use Rattle.unit.specs.declared.search.Found.the-variants.{At}
@@ -31,7 +32,7 @@ use lib.Dec.{ltb}
 Given : Turn → Type 0
 Given t = given (getD (numbers t) 0 0) ++ given (getD (numbers t) 1 0) ≡ numbers t
 
-row-given : (l : Limits) (ph : Phase) (v : ℕ) → All (λ c. Given (play l ph v c)) (table ph)
+row-given : (l : Limits) (ph : Phase) (v : ℕ) → All Given (table l v ph)
 unfolding Given given
 row-given l ph v = by ph
   where
@@ -40,7 +41,7 @@ row-given l ph v = by ph
         → Given (again l number q)
     more number q sends = cond-holds Given (ltb (tries q) (l .tries)) (Sends number (oneMore q)) Released sends refl
 
-    by : (q : Phase) → All (λ c. Given (play l q v c)) (table q)
+    by : (q : Phase) → All Given (table l v q)
     by (Connecting t) = (refl, (refl, (refl, (more 21 (Connecting t) refl, (refl, (refl, tt))))))
     by (Contacting t) = (refl, (refl, (refl, (more 155 (Contacting t) refl, (judged-case Given l v refl refl, (refl, tt))))))
     by Open = (refl, (refl, (refl, (refl, (refl, (refl, tt))))))

@@ -11,17 +11,17 @@ use Rattle.place.specs.Table.{placeAfter, closedBy}
 use Rattle.place.specs.declared.place.Place.{Place}
 use Rattle.place.specs.declared.turn.Closing.{Closing}
 use Rattle.unit.specs.Steps.{closed}
-use Rattle.unit.specs.Kept.{weigh}
+use Rattle.wire.specs.Sums.{sum}
 
 -- weights that agree at each place agree at all
-pub weigh-same : (f g : Place → ℕ) → ((p : Place) → f p ≡ g p) → (ps : List Place) → weigh f ps ≡ weigh g ps
-unfolding weigh
+pub weigh-same : (f g : Place → ℕ) → ((p : Place) → f p ≡ g p) → (ps : List Place) → sum f ps ≡ sum g ps
+unfolding sum
 weigh-same f g same [] = refl
 weigh-same f g same (p ∷ ps) = ap₂ _+_ (same p) (weigh-same f g same ps)
 
 -- and one that is less at each is less at all
-pub weigh-less : (f g : Place → ℕ) → ((p : Place) → f p ≤ g p) → (ps : List Place) → weigh f ps ≤ weigh g ps
-unfolding weigh
+pub weigh-less : (f g : Place → ℕ) → ((p : Place) → f p ≤ g p) → (ps : List Place) → sum f ps ≤ sum g ps
+unfolding sum
 weigh-less f g less [] = omega arith
 weigh-less f g less (p ∷ ps) =
     let first = less p in
@@ -31,8 +31,8 @@ weigh-less f g less (p ∷ ps) =
 -- a store takes the old place's weight out and puts the new one's in
 pub weigh-set : (f : Place → ℕ) (ps : List Place) (i : ℕ) (x : Place)
     → i < length ps
-    → weigh f (set ps i x) + f (getD ps i vacant) ≡ weigh f ps + f x
-unfolding weigh
+    → sum f (set ps i x) + f (getD ps i vacant) ≡ sum f ps + f x
+unfolding sum
 weigh-set f [] i x h = absurd (omega arith)
 weigh-set f (p ∷ ps) zero x h = omega arith
 weigh-set f (p ∷ ps) (suc i) x h =
@@ -42,8 +42,8 @@ weigh-set f (p ∷ ps) (suc i) x h =
 -- a closing adds no weight that it adds to no place
 pub weigh-closed : (f : Place → ℕ) (which : Closing) (ps : List Place)
     → ((p : Place) → f (placeAfter p (closedBy which p)) ≤ f p)
-    → weigh f (closed which ps) ≤ weigh f ps
-unfolding weigh closed
+    → sum f (closed which ps) ≤ sum f ps
+unfolding sum closed
 weigh-closed f which [] h = omega arith
 weigh-closed f which (p ∷ ps) h =
     let first = h p in
@@ -51,8 +51,8 @@ weigh-closed f which (p ∷ ps) h =
     omega arith
 
 -- no more than one for each place
-pub weigh-few : (f : Place → ℕ) (ps : List Place) → ((p : Place) → f p ≤ 1) → weigh f ps ≤ length ps
-unfolding weigh
+pub weigh-few : (f : Place → ℕ) (ps : List Place) → ((p : Place) → f p ≤ 1) → sum f ps ≤ length ps
+unfolding sum
 weigh-few f [] h = omega arith
 weigh-few f (p ∷ ps) h =
     let first = h p in
@@ -60,8 +60,8 @@ weigh-few f (p ∷ ps) h =
     omega arith
 
 -- one place weighs no more than all
-pub weigh-at : (f : Place → ℕ) (ps : List Place) (i : ℕ) → i < length ps → f (getD ps i vacant) ≤ weigh f ps
-unfolding weigh
+pub weigh-at : (f : Place → ℕ) (ps : List Place) (i : ℕ) → i < length ps → f (getD ps i vacant) ≤ sum f ps
+unfolding sum
 weigh-at f [] i h = absurd (omega arith)
 weigh-at f (p ∷ ps) zero h = omega arith
 weigh-at f (p ∷ ps) (suc i) h =

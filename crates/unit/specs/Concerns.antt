@@ -1,41 +1,31 @@
--- Only laws for crates above speak of what stands here: the events, actions and places of any choice of partners.
+-- Cross-checks only: nobody has to believe what stands here.
+-- The events, actions and places of any choice of partners.
 -- Defines: stirring, stirs, takesIn, actionFor, releaseFor, otherFor, heldBy, placeOf, isConnecting, heldPast, placePast.
 use mathlib.Core.Bool.{Bool, true, false, _&&_, not}
 use lib.Dec.{eqb}
+use Rattle.record.specs.Events.{byEvent}
 use Rattle.record.specs.declared.partner.Partner.{Partner}
 use Rattle.record.specs.declared.event.PartnerEvent.{PartnerEvent}
-use Rattle.record.specs.declared.event.PartnerEvent.the-variants.{Drop, Up, Loss, Timeout, Version, Ended}
+use Rattle.place.specs.Places.{byPhase}
 use Rattle.place.specs.Table.{release}
 use Rattle.place.specs.declared.phase.Phase.{Phase}
-use Rattle.place.specs.declared.phase.Phase.the-variants.{Connecting, Contacting, Open, Lost, Ending}
 use Rattle.place.specs.declared.place.Holding.{Holding}
 use Rattle.place.specs.declared.place.Holding.the-variants.{Free, Held}
 use Rattle.place.specs.declared.place.Place.{Place}
-use Rattle.unit.specs.Standings.{Concern, nobody, orderTo, callOf, naming}
+use Rattle.unit.specs.Standings.{Concern, byConcern}
 use Rattle.unit.specs.declared.answer.Action.{Action}
 
 -- up, lost or timeout
 abbrev pub stirring : PartnerEvent → Bool
-stirring Drop = false
-stirring Up = true
-stirring Loss = true
-stirring Timeout = true
-stirring (Version v) = false
-stirring Ended = false
+stirring = byEvent false true true true (λ v. false) false
 
 -- an up, lost or timeout that names one of these partners
 abbrev pub stirs : (Partner → Bool) → Concern → Bool
-stirs mine nobody = false
-stirs mine (orderTo p) = false
-stirs mine (callOf p) = false
-stirs mine (naming p e) = mine p && stirring e
+stirs mine = byConcern false (λ p. false) (λ p. false) (λ p e. mine p && stirring e)
 
 -- an order or a call that takes one of these partners in, where it is accepted
 abbrev pub takesIn : (Partner → Bool) → Concern → Bool
-takesIn mine nobody = false
-takesIn mine (orderTo p) = mine p
-takesIn mine (callOf p) = mine p
-takesIn mine (naming p e) = false
+takesIn mine = byConcern false mine mine (λ p e. false)
 
 -- an action for one of these partners; a release among them; any other
 abbrev pub actionFor : (Partner → Bool) → Action → Bool
@@ -57,11 +47,7 @@ placeOf mine place = heldBy mine (place .holding)
 
 -- a place that one of them has and that is not Connecting
 abbrev pub isConnecting : Phase → Bool
-isConnecting (Connecting t) = true
-isConnecting (Contacting t) = false
-isConnecting Open = false
-isConnecting (Lost t) = false
-isConnecting (Ending t) = false
+isConnecting = byPhase true false false false false
 
 abbrev pub heldPast : (Partner → Bool) → Holding → Bool
 heldPast mine Free = false

@@ -1,3 +1,4 @@
+-- Examples only: nobody has to believe what stands here.
 -- Document 01, "Marked examples", in bytes: what each record of P1 to P10 leaves in a buffer of 20 bytes that was all 255, by "Actions are
 -- five bytes: number, partner" and "later bytes stay".
 -- Defines: lent, sentBytes, gotBytes, wantBytes.

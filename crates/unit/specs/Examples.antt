@@ -1,3 +1,4 @@
+-- Examples only: nobody has to believe what stands here.
 -- Document 01, "Marked examples": P1 to P10, "X 1 to 2"; and lines on the meant partner of request Q-2.
 -- A line is one record's bytes, and what it gives: 0 or the refusal, the actions in their order, the whole state after it, and, of
 -- request Q-6, the place and phase where it carries them.
@@ -14,7 +15,7 @@ use Rattle.place.specs.declared.phase.Phase.the-variants.{Connecting, Contactin
 use Rattle.place.specs.declared.place.Direction.the-variants.{Outgoing, Incoming}
 use Rattle.place.specs.declared.place.Place.{Place}
 use Rattle.place.specs.declared.limits.Limits.{Limits}
-use Rattle.unit.specs.States.{coldStart, noMarks, placeCount, nowhere}
+use Rattle.unit.specs.States.{coldStart, oneToTwo, noMarks, placeCount, nowhere}
 use Rattle.unit.specs.Steps.{Outcome, refusedAt, done, act}
 use Rattle.unit.specs.OnRecords.{trace}
 use Rattle.unit.specs.declared.last.Last.the-variants.{Unknown, Known}
@@ -46,7 +47,7 @@ inc ph p = seat Incoming ph p
 
 -- "X 1 to 2", and the number of tries that "all cases of 01 relied on"
 abbrev limits : Limits
-limits = record { lowest = 1; highest = 2; tries = fleetTries }
+limits = oneToTwo fleetTries
 
 -- the box with its level, mission, marks and first places; the other places are free, and no RBC is known
 abbrev box : ℕ → ℕ → Marks → List Place → State

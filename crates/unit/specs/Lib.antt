@@ -11,3 +11,6 @@ pub mod Changes
 pub mod Kept
 pub mod Runs
 pub mod Counting
+pub mod Searching
+pub mod StepWords
+pub mod RunWords

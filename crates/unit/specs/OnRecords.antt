@@ -1,11 +1,12 @@
 -- Document 01, "Rules of one step" on bytes: the step on a record, and the bytes of its actions.
 -- Defines: actionRoom, actionSize, onReading, applied, onRecord, trace, bytesOf, actionBytes, written.
 use Prim.Native.Nat.{ℕ, _*_}
-use mathlib.Core.Bool.{cond}
 use mathlib.Core.List.{List, [], _∷_, _++_}
 use lib.Dec.{leb}
 use lib.ListN.{length, drop}
 use Rattle.wire.specs.Blocks.{blocks}
+use Rattle.wire.specs.Orders.{firstThatApplies}
+use Rattle.record.specs.Partners.{partnerBytes}
 use Rattle.record.specs.Records.{reading}
 use Rattle.wire.specs.Refusals.{noRoom, notSound}
 use Rattle.record.specs.declared.event.Reading.{Reading}
@@ -30,11 +31,11 @@ onReading s (Refused r) = refused r s
 
 -- "11, then 1 (empty), 2, 1 (length), 3; then .."
 abbrev pub applied : State → List ℕ → Outcome
-applied s bytes = cond (sound s) (onReading s (reading bytes)) (refused notSound s)
+applied s bytes = firstThatApplies (λ r. refused r s) ((sound s, notSound) ∷ []) (onReading s (reading bytes))
 
--- "Step: 10, 11, ..": room is the length of the action buffer
+-- "First that applies, in these orders. Step: 10, 11, ..": room is the length of the action buffer
 unfoldable pub onRecord : State → List ℕ → ℕ → Outcome
-onRecord s bytes room = cond (leb actionRoom room) (applied s bytes) (refused noRoom s)
+onRecord s bytes room = firstThatApplies (λ r. refused r s) ((leb actionRoom room, noRoom) ∷ []) (applied s bytes)
 
 -- the outcomes of a history, "a row of event records, each given 20 bytes for its actions"
 unfoldable pub trace : State → List (List ℕ) → List Outcome
@@ -43,9 +44,9 @@ trace s (bytes ∷ history) =
     let o : Outcome = onRecord s bytes actionRoom in
     o ∷ trace (o .state) history
 
--- the five bytes of an action
+-- "Actions are five bytes: number, partner"
 abbrev pub bytesOf : Action → List ℕ
-bytesOf a = a .number ∷ a .partner .kind ∷ a .partner .high ∷ a .partner .middle ∷ a .partner .low ∷ []
+bytesOf a = a .number ∷ partnerBytes (a .partner)
 
 -- the bytes of a step's actions, one after the other
 abbrev pub actionBytes : List Action → List ℕ

@@ -1,6 +1,6 @@
 -- Whom an event and a record concern; and what the promises of request Q-6 speak of: where a partner stands, and what an answer says
 -- of it.
--- Defines: Concern, concern, concernOf, Numbered, Stands, Says.
+-- Defines: Concern, byConcern, concern, concernOf, Numbered, Stands, Says.
 use Prim.Native.Nat.{ℕ, _<_}
 use mathlib.Core.Bool.{true}
 use mathlib.Core.Path.{_≡_}
@@ -27,6 +27,13 @@ pub data Concern : Type 0 where
   orderTo : Partner → Concern
   callOf : Partner → Concern
   naming : Partner → PartnerEvent → Concern
+
+-- an answer for nobody, for an order to a partner, for a call of a partner, and for another event that names a partner
+abbrev pub byConcern : {A : Type 0} → A → (Partner → A) → (Partner → A) → (Partner → PartnerEvent → A) → Concern → A
+byConcern atNobody atOrder atCall atNaming nobody = atNobody
+byConcern atNobody atOrder atCall atNaming (orderTo p) = atOrder p
+byConcern atNobody atOrder atCall atNaming (callOf p) = atCall p
+byConcern atNobody atOrder atCall atNaming (naming p e) = atNaming p e
 
 -- whom an event concerns; an order with the reserved number the one that it means
 abbrev pub concern : Last → Event → Concern

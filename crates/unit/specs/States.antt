@@ -1,11 +1,12 @@
 -- Document 01, "What the box remembers", with what requests Q-2 and Q-3 add to it: soundness of a state, and the cold starts.
 -- Defines: placeCount, some, first, seek, nowhere, standing, highestX, limitsOk, trainOk, marksOk, absentFrom, placesOk, sound, noMarks,
--- cold, noLimits, coldStart, defaultStart.
+-- cold, noLimits, coldStart, oneToTwo, defaultStart.
 use Prim.Native.Nat.{ℕ, suc}
 use mathlib.Core.Bool.{Bool, true, false, cond, _&&_, not, _||_}
 use mathlib.Core.List.{List, [], _∷_}
 use lib.Dec.{eqb, leb}
 use lib.ListN.{length, getD, replicate}
+use Rattle.wire.specs.Orders.{firstThatApplies}
 use Rattle.record.specs.Records.{highestLevel, missionEnded, missionUnderWay}
 use Rattle.wire.specs.Refusals.{accepted, badLimits}
 use Rattle.record.specs.declared.partner.Partner.{Partner}
@@ -108,7 +109,12 @@ noLimits = record { lowest = 0; highest = 0; tries = fleetTries }
 -- "also for n outside 1 to 9"
 unfoldable pub coldStart : Limits → Started
 coldStart l =
-    cond (limitsOk l) (record { code = accepted; state = cold l }) (record { code = badLimits; state = cold noLimits })
+    firstThatApplies (λ r. record { code = r; state = cold noLimits }) ((limitsOk l, badLimits) ∷ [])
+    (record { code = accepted; state = cold l })
+
+-- "X 1 to 2", of `sheet` and of the marked examples, and n tries
+abbrev pub oneToTwo : ℕ → Limits
+oneToTwo n = record { lowest = 1; highest = 2; tries = n }
 
 -- Q-3: "Where no number is given the default was 3 and becomes 5"
 abbrev pub defaultStart : ℕ → ℕ → Started

@@ -1,7 +1,7 @@
 -- Document 01, "Rules of one step", with the meant partner of request Q-2: one step on values, for every kind of event.
 -- Defines: Outcome, refusedAt, refused, done, withTrain, withMarks, withPlaces, recalling, act, markManual, withLevel, markMode, markHole,
 -- holeTaken, atHole, actionsIn, closed, closingActions, closePlaces, withMission, atMission, radioLevel, inForce, spend, displaced,
--- takenIn, admitted, orderedAt, orderedTo, ordered, setAt, calledAt, called, turnedAt, turned, namedAt, step.
+-- takenIn, orderedAt, refusedFor, ordered, setAt, calledAt, called, turnedAt, named, step.
 use Prim.Native.Nat.{ℕ}
 use mathlib.Core.Bool.{Bool, true, false, cond, _&&_, _||_, not}
 use mathlib.Core.List.{List, [], _∷_, _++_, map}
@@ -9,6 +9,7 @@ use lib.Dec.{eqb}
 use lib.ListN.{getD, set}
 use Rattle.record.specs.Partners.{isRbc, reserved}
 use Rattle.record.specs.Records.{missionEnded, missionStarting}
+use Rattle.wire.specs.Orders.{firstThatApplies}
 use Rattle.wire.specs.Refusals as refusal
 use Rattle.record.specs.declared.partner.Partner.{Partner}
 use Rattle.record.specs.declared.event.Cause.{Cause}
@@ -16,9 +17,8 @@ use Rattle.record.specs.declared.event.Cause.the-variants.{StartOfMission, Trac
 use Rattle.record.specs.declared.event.PartnerEvent.{PartnerEvent}
 use Rattle.record.specs.declared.event.Event.{Event}
 use Rattle.record.specs.declared.event.Event.the-variants.{Level, Mission, Mode, Hole, Order, EndAll, Call, Named}
-use Rattle.place.specs.Places.{vacant, seat, onHolding}
+use Rattle.place.specs.Places.{vacant, seat, onHolding, isFree, heldPhase, holds}
 use Rattle.place.specs.Table.{request, established, firstTry, turn, takes, numbers, placeAfter, closedBy}
-use Rattle.place.specs.declared.phase.Phase.{Phase}
 use Rattle.place.specs.declared.phase.Phase.the-variants.{Connecting, Open}
 use Rattle.place.specs.declared.place.Direction.the-variants.{Outgoing, Incoming}
 use Rattle.place.specs.declared.place.Holding.{Holding}
@@ -27,12 +27,10 @@ use Rattle.place.specs.declared.turn.Turn.{Turn}
 use Rattle.place.specs.declared.turn.Closing.{Closing}
 use Rattle.place.specs.declared.turn.Closing.the-variants.{Every, Sessions, Nothing}
 use Rattle.unit.specs.Lasts.{meant, recalled}
-use Rattle.unit.specs.States.{seek, nowhere, standing}
+use Rattle.unit.specs.States.{some, first, seek, nowhere, standing}
 use Rattle.unit.specs.declared.state.Train.{Train}
 use Rattle.unit.specs.declared.state.Marks.{Marks}
 use Rattle.unit.specs.declared.state.State.{State}
-use Rattle.unit.specs.declared.search.Found.{Found}
-use Rattle.unit.specs.declared.search.Found.the-variants.{At, Vacant, Full}
 use Rattle.unit.specs.declared.search.Standing.{Standing}
 use Rattle.unit.specs.declared.answer.Action.{Action}
 
@@ -74,10 +72,11 @@ recalling s acts =
 abbrev pub act : Partner → ℕ → Action
 act p number = record { number = number; partner = p }
 
--- "Level: stored; manual 1 sets its mark, manual 0 leaves it"
+-- "manual 1 sets its mark, manual 0 leaves it"
 abbrev pub markManual : Marks → Bool → Marks
 markManual m manual = record { inside = m .inside; mode = m .mode; manual = m .manual || manual; end = m .end }
 
+-- "Level: stored; manual 1 sets its mark, manual 0 leaves it"
 abbrev pub withLevel : State → ℕ → Bool → State
 withLevel s level manual =
     withMarks (withTrain s (record { level = level; mission = s .train .mission })) (markManual (s .marks) manual)
@@ -95,8 +94,11 @@ abbrev pub holeTaken : Marks → Bool → Bool
 holeTaken m true = not (m .inside)
 holeTaken m false = m .inside
 
+-- "for hole 7"
 abbrev pub atHole : State → Bool → Outcome
-atHole s entered = cond (holeTaken (s .marks) entered) (done (withMarks s (markHole (s .marks) entered)) []) (refused refusal.notTaken s)
+atHole s entered =
+    firstThatApplies (λ r. refused r s) ((holeTaken (s .marks) entered, refusal.notTaken) ∷ [])
+    (done (withMarks s (markHole (s .marks) entered)) [])
 
 -- the actions of a place's turn, for the partner that it holds
 abbrev pub actionsIn : Holding → Turn → List Action
@@ -111,14 +113,16 @@ unfoldable pub closingActions : Closing → List Place → List Action
 closingActions which [] = []
 closingActions which (p ∷ ps) = actionsIn (p .holding) (closedBy which p) ++ closingActions which ps
 
--- "End all: closes every place, lowest first, that is not Ending; with no such place it is accepted and does no more"
+-- a closing of these places; of `Every`: "End all: closes every place, lowest first, that is not Ending; with no such place it is accepted
+-- and does no more"
 abbrev pub closePlaces : Closing → State → Outcome
 closePlaces which s = done (withPlaces s (closed which (s .places))) (closingActions which (s .places))
 
--- "Mission: stored; 0 also ends all"
+-- the mission stored
 abbrev pub withMission : State → ℕ → State
 withMission s mission = withTrain s (record { level = s .train .level; mission = mission })
 
+-- "Mission: stored; 0 also ends all"
 abbrev pub atMission : State → ℕ → Outcome
 atMission s mission =
     cond (eqb mission missionEnded) (closePlaces Every (withMission s mission)) (done (withMission s mission) [])
@@ -127,7 +131,8 @@ atMission s mission =
 abbrev pub radioLevel : Train → Bool
 radioLevel t = eqb (t .level) 2 || eqb (t .level) 3
 
--- "Its cause must be in force"
+-- "Its cause must be in force: 0 start of mission (mission 1, level 2 or 3); 1 trackside (always); 2 mode change (mission not 0, level 2
+-- or 3, mark set); 3 manual level (level 2 or 3, mark set); 4 hole end (mark set)"
 abbrev pub inForce : Cause → Train → Marks → Bool
 inForce StartOfMission t m = eqb (t .mission) missionStarting && radioLevel t
 inForce Trackside t m = true
@@ -143,7 +148,8 @@ spend ModeChange m = record { inside = m .inside; mode = false; manual = m .manu
 spend ManualLevel m = record { inside = m .inside; mode = m .mode; manual = false; end = m .end }
 spend HoleEnd m = record { inside = m .inside; mode = m .mode; manual = m .manual; end = false }
 
--- "If the partner is an RBC and accepting is 0, each RBC place in Open or Lost is closed"
+-- "If the partner is an RBC and accepting is 0, each RBC place in Open or Lost is closed, lowest first"; "orders to an RIU never end RBC
+-- sessions"
 abbrev pub displaced : Partner → Bool → Closing
 displaced p accepting = cond (isRbc p && not accepting) Sessions Nothing
 
@@ -153,26 +159,27 @@ takenIn o i p =
     done (withPlaces (o .state) (set (o .state .places) i (seat Outgoing (Connecting firstTry) p)))
     (o .actions ++ (act p request ∷ []))
 
--- "5, 8" of an order and of 38: refused, or taken in at the lowest free place
-abbrev pub admitted : State → (ℕ → Outcome) → Found → Outcome
-admitted s taken (At i ph) = refusedAt refusal.hasPlace (standing (At i ph)) s
-admitted s taken (Vacant i) = taken i
-admitted s taken Full = refusedAt refusal.allTaken (standing Full) s
-
 -- "A place freed by this same order is not counted as free for it": the place was found before the closings
 abbrev pub orderedAt : State → Partner → Bool → Cause → ℕ → Outcome
 orderedAt s p accepting cause i =
     takenIn (closePlaces (displaced p accepting) (withMarks s (spend cause (s .marks)))) i p
 
--- Q-2: "15 .. when none is known, after 4 and before 5": the meant partner is then still the reserved one
-abbrev pub orderedTo : State → Partner → Bool → Cause → Outcome
-orderedTo s p accepting cause =
-    cond (reserved p) (refused refusal.noneKnown s) (admitted s (orderedAt s p accepting cause) (seek p (s .places)))
+-- Q-6: "Refusals 5 and 7 then carry place and phase in the step's answer; .. every other answer, carries place 4 and phase 0"
+abbrev pub refusedFor : Partner → State → ℕ → Outcome
+refusedFor p s r =
+    refusedAt r (cond (eqb r refusal.hasPlace || eqb r refusal.notTaken) (standing (seek p (s .places))) nowhere) s
 
--- "for an order 4, 5, 8"; Q-2: "Demands 2 and 3 read with the meant partner"
+-- "for an order 4, 5, 8"; Q-2: "15 .. when none is known, after 4 and before 5". The partner is the meant one, which is still the reserved
+-- one exactly when none is known; 5 and 8 ask the places before any closing
 abbrev pub ordered : State → Partner → Bool → Cause → Outcome
 ordered s p accepting cause =
-    cond (inForce cause (s .train) (s .marks)) (orderedTo s (meant (s .last) p) accepting cause) (refused refusal.notInForce s)
+    firstThatApplies (refusedFor p s)
+    ((inForce cause (s .train) (s .marks), refusal.notInForce)
+    ∷ (not (reserved p), refusal.noneKnown)
+    ∷ (not (some (holds p) (s .places)), refusal.hasPlace)
+    ∷ (some isFree (s .places), refusal.allTaken)
+    ∷ [])
+    (orderedAt s p accepting cause (first isFree (s .places)))
 
 -- another place at this number, and these actions for its partner
 abbrev pub setAt : State → ℕ → Place → List Action → Outcome
@@ -184,29 +191,34 @@ calledAt s p i = setAt s i (seat Incoming Open p) (act p established ∷ [])
 
 -- "for 38 9, 5, 8"
 abbrev pub called : State → Partner → Outcome
-called s p = cond (isRbc p) (admitted s (calledAt s p) (seek p (s .places))) (refused refusal.callFromRiu s)
+called s p =
+    firstThatApplies (refusedFor p s)
+    ((isRbc p, refusal.callFromRiu)
+    ∷ (not (some (holds p) (s .places)), refusal.hasPlace)
+    ∷ (some isFree (s .places), refusal.allTaken)
+    ∷ [])
+    (calledAt s p (first isFree (s .places)))
 
 -- a turn of the place with this number, for the partner that it holds
 abbrev pub turnedAt : State → ℕ → Partner → Turn → Outcome
 turnedAt s i p t = setAt s i (placeAfter (getD (s .places) i vacant) t) (map (act p) (numbers t))
 
--- "\"no\" is refusal 7"
-abbrev pub turned : State → ℕ → Phase → Partner → Turn → Outcome
-turned s i ph p t = cond (takes t) (turnedAt s i p t) (refusedAt refusal.notTaken (standing (At i ph)) s)
+-- "for other partner events 6, 7"; "\"no\" is refusal 7"; where no place holds the partner 6 comes first, and i and t mean nothing
+abbrev pub named : State → Partner → PartnerEvent → Outcome
+named s p e =
+    let i : ℕ = first (holds p) (s .places) in
+    let t : Turn = turn (s .limits) (heldPhase (getD (s .places) i vacant)) e in
+    firstThatApplies (refusedFor p s)
+    ((some (holds p) (s .places), refusal.hasNone) ∷ (takes t, refusal.notTaken) ∷ [])
+    (turnedAt s i p t)
 
--- "for other partner events 6, 7"
-abbrev pub namedAt : State → Partner → PartnerEvent → Found → Outcome
-namedAt s p e (At i ph) = turned s i ph p (turn (s .limits) ph e)
-namedAt s p e (Vacant i) = refusedAt refusal.hasNone (standing (Vacant i)) s
-namedAt s p e Full = refusedAt refusal.hasNone (standing Full) s
-
--- one step
+-- one step; Q-2: "Demands 2 and 3 read with the meant partner"
 unfoldable pub step : State → Event → Outcome
 step s (Level level manual) = done (withLevel s level manual) []
 step s (Mission mission) = atMission s mission
 step s Mode = done (withMarks s (markMode (s .marks))) []
 step s (Hole entered) = atHole s entered
-step s (Order p accepting cause) = ordered s p accepting cause
+step s (Order p accepting cause) = ordered s (meant (s .last) p) accepting cause
 step s EndAll = closePlaces Every s
 step s (Call p) = called s p
-step s (Named p e) = namedAt s p e (seek p (s .places))
+step s (Named p e) = named s p e

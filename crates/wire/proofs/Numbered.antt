@@ -1,3 +1,4 @@
+-- Cross-checks only: rules told a second time.
 -- The numbers of refusal, as document 01 and the requests give them.
 -- Proves: refusals-numbered.
 use mathlib.Core.Path.{_≡_, refl}

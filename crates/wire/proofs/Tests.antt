@@ -1,9 +1,9 @@
 -- Tests that pass, joined by `&&` and chosen by `cond`.
 -- Defines: All.
--- Proves: and-left, and-right, and-both, true-false, cond-case, cond-holds, getD-all.
+-- Proves: and-left, and-right, and-both, true-false, cond-case, cond-holds, getD-all, getD-map.
 use mathlib.Core.Path.{_≡_, refl}
 use mathlib.Core.Bool.{Bool, true, false, cond, _&&_}
-use mathlib.Core.List.{List, [], _∷_}
+use mathlib.Core.List.{List, [], _∷_, map}
 use Prim.Native.Nat.{ℕ, zero, suc}
 use native.Mathlib.Omega.{arith}
 use lib.ListN.{getD}
@@ -45,3 +45,9 @@ pub getD-all {ℓ κ} : {A : Type ℓ} (P : A → Type κ) (l : List A) (d : A) 
 getD-all P [] d h g i = g
 getD-all P (x ∷ xs) d h g zero = h .0
 getD-all P (x ∷ xs) d h g (suc i) = getD-all P xs d (h .1) g i
+
+-- an entry of a table that is made of another one
+pub getD-map : {A B : Type 0} (f : A → B) (xs : List A) (i : ℕ) (d : A) → getD (map f xs) i (f d) ≡ f (getD xs i d)
+getD-map f [] i d = refl
+getD-map f (x ∷ xs) zero d = refl
+getD-map f (x ∷ xs) (suc i) d = getD-map f xs i d

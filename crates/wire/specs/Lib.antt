@@ -1,3 +1,5 @@
 pub mod Refusals
 pub mod Bytes
 pub mod Blocks
+pub mod Orders
+pub mod Sums

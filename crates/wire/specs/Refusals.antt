@@ -1,4 +1,5 @@
--- Document 01, "Numbers of refusal": each number with its one name.
+-- Document 01, "Numbers of refusal": the numbers of the core, each with its one name; 14 stands in `onsight`, 17 and 18 in `shunter`, 19 in
+-- `marks`.
 -- Defines: accepted, wrongLength, unknownKind, outOfRange, notInForce, hasPlace, hasNone, notTaken, allTaken, callFromRiu, noRoom,
 -- notSound, logTooLong, badLimits, noneKnown, notInA1.
 use Prim.Native.Nat.{ℕ}

@@ -8,7 +8,8 @@ use native.Mathlib.Omega.{arith}
 use lib.Dec.{leb, lit≤}
 use lib.ListN.{length, set}
 use borrow.Author.Tests.{leb-true}
-use Rattle.record.specs.Records.{reading, readingOk}
+use Rattle.record.specs.Records.{reading}
+use Rattle.record.specs.Ranges.{readingOk}
 use Rattle.wire.specs.Refusals.{accepted, wrongLength, outOfRange}
 use Rattle.record.specs.declared.event.Reading.{Reading}
 use Rattle.record.specs.declared.event.Reading.the-variants.{Refused}

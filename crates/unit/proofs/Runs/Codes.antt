@@ -9,7 +9,8 @@ use native.Mathlib.Omega.{arith}
 use lib.Dec.{eqb, leb}
 use lib.ListN.{length, take, drop, length-drop}
 use borrow.Author.Tests.{leb-true, le-leb}
-use Rattle.record.specs.Records.{bodyOf, fields}
+use Rattle.record.specs.Records.{rowOf}
+use Rattle.record.specs.Rows.{fields}
 use Rattle.wire.specs.Refusals as refusal
 use Rattle.record.specs.declared.event.Event.{Event}
 use Rattle.record.specs.declared.event.Reading.the-variants.{Meant, Refused}
@@ -22,7 +23,9 @@ use Rattle.unit.specs.declared.state.State.{State}
 use Rattle.unit.proofs.Shapes.{StepRefusal, Shape, refuses, notes, closesEvery, orders, calls, turns, shape}
 use Rattle.unit.proofs.Sound.{onRecord-sound}
 use Rattle.record.specs.Takes.{longestLog, takeOne, taken, onTaken}
-use Rattle.unit.specs.Runs.{Course, stops, applies, course, stepsOf, steps, fresh, go, runRefused, run, runCode, allCodes}
+use Rattle.unit.specs.Runs.{Course, stops, applies, course, fresh, go, runRefused, run}
+use Rattle.unit.specs.RunWords.{stepsOf, steps}
+use Rattle.unit.specs.RunWords.{runCode, allCodes}
 use Rattle.unit.specs.declared.run.Report.{Report}
 use Rattle.record.specs.declared.take.Taken.{Taken}
 use Rattle.record.specs.declared.take.Taken.the-variants as front
@@ -58,10 +61,10 @@ module _ (s : State) where
   pub step-code : (e : Event) → runCode (step s e .code) ≡ true
   step-code e = code (shape s e)
 
-  fields-code : (kind : ℕ) (bytes : List ℕ) → Fine (onReading s (fields (bodyOf kind) bytes))
+  fields-code : (kind : ℕ) (bytes : List ℕ) → Fine (onReading s (fields (rowOf kind) bytes))
   fields-code kind bytes =
-      cond-holds (λ r. Fine (onReading s r)) (bodyOf kind .ranges bytes) (Meant (bodyOf kind .means bytes)) (Refused refusal.outOfRange)
-      (step-code (bodyOf kind .means bytes))
+      cond-holds (λ r. Fine (onReading s r)) (rowOf kind .ranges bytes) (Meant (rowOf kind .means bytes)) (Refused refusal.outOfRange)
+      (step-code (rowOf kind .means bytes))
       refl
 
 -- the steps of a run
@@ -98,7 +101,7 @@ steps-codes (suc budget) s (x ∷ log) good small =
         let ok = whole-ok (x ∷ log) 0 k r below (sym (taken-short (x ∷ log) small) ∙ e) in
         let reads = part-reads (x ∷ log) 0 below k (ok .0) (omega (arith, ok .0, ok .1)) (ok .2) bytes refl in
         and-both (runCode (next k .code)) (allCodes (steps budget (next k .state) (drop k (x ∷ log))))
-        (ap (λ o. runCode (o .code)) (applied-reading s bytes good (fields (bodyOf x) bytes) reads) ∙ fields-code s x bytes)
+        (ap (λ o. runCode (o .code)) (applied-reading s bytes good (fields (rowOf x) bytes) reads) ∙ fields-code s x bytes)
         (rest k)
 
 -- "In every run that is not itself refused": from any state, whatever the log and the budget

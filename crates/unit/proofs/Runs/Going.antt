@@ -1,5 +1,5 @@
 -- One turn of the run's loop: what stands at the front is a whole record, and the run goes on after it.
--- Proves: whole-ok, whole-ready, run-next, run-again.
+-- Proves: whole-ok, whole-ready, run-next, run-on.
 use mathlib.Core.Path.{_≡_, refl, sym, ap, ap₂, subst, _∙_}
 use mathlib.Core.Bool.{true, cond}
 use mathlib.Core.List.{List}
@@ -9,7 +9,8 @@ use lib.Dec.{leb}
 use lib.ListN.{length, getD, take, drop, length-drop}
 use lib.Seq.{drop-drop}
 use borrow.Author.Tests.{ltb-true, leb-true}
-use Rattle.record.specs.Records.{known, lengthOf, reading, readingOk}
+use Rattle.record.specs.Records.{known, lengthOf, reading}
+use Rattle.record.specs.Ranges.{readingOk}
 use Rattle.wire.proofs.Tests.{cond-case}
 use Rattle.record.proofs.Ranges.{reading-ok}
 use Rattle.record.proofs.Takes.{by-kind, taken-short}
@@ -111,7 +112,7 @@ module _ (log : List ℕ) (t : Tally) (k : ℕ) (r : Reading) (below : t .offset
         )
 
     -- and the budget counts what was read
-    pub run-again : (budget : ℕ) (before : Report)
+    pub run-on : (budget : ℕ) (before : Report)
         → Bounded t
         → t .read ≤ budget
         → (t .read ≡ budget → ⊥)
@@ -122,7 +123,7 @@ module _ (log : List ℕ) (t : Tally) (k : ℕ) (r : Reading) (below : t .offset
         × (u .read ≤ budget)
         × (before ≡ go (budget - u .read) u (drop (u .offset) log))
     unfolding next counted
-    run-again budget before bounded within some so-far =
+    run-on budget before bounded within some so-far =
         let read : u .read ≡ t .read + 1 = ap (λ x. x .read) is-next in
         let fewer : budget - t .read - 1 ≡ budget - u .read = omega (arith, read) in
         let next = run-next (budget - t .read) bounded (λ none. some (omega (arith, within, none))) in (

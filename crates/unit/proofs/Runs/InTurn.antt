@@ -16,7 +16,8 @@ use Rattle.unit.specs.States.{sound}
 use Rattle.unit.specs.Steps.{Outcome}
 use Rattle.unit.specs.OnRecords.{actionRoom, onRecord}
 use Rattle.record.specs.Takes.{longestLog, taken}
-use Rattle.unit.specs.Runs.{Course, stops, applies, course, noTotals, counted, fresh, tallied, go, runRefused, run, takenUp}
+use Rattle.unit.specs.Runs.{Course, stops, applies, course, noTotals, counted, fresh, tallied, go, runRefused, run}
+use Rattle.unit.specs.RunWords.{takenUp}
 use Rattle.unit.specs.declared.state.State.{State}
 use Rattle.unit.specs.declared.run.Tally.{Tally}
 use Rattle.unit.specs.declared.run.Report.{Report}

@@ -16,22 +16,24 @@ use Rattle.unit.specs.States.{sound}
 use Rattle.unit.specs.Steps.{Outcome}
 use Rattle.unit.specs.declared.state.State.{State}
 use Rattle.record.specs.Takes.{longestLog}
-use Rattle.unit.specs.Runs.{Course, stops, applies, course, stepsOf, steps}
-use Rattle.unit.specs.Runs.{totalOf, totalled, counted, fresh, tallied, go, runRefused, run, sumOf}
+use Rattle.unit.specs.Runs.{Course, stops, applies, course}
+use Rattle.unit.specs.RunWords.{stepsOf, steps}
+use Rattle.unit.specs.Runs.{totalOf, totalled, counted, fresh, tallied, go, runRefused, run}
+use Rattle.wire.specs.Sums.{sum}
 use Rattle.unit.specs.declared.run.Tally.{Tally}
 
 -- a count that each record changes by what its step counts for is the sum over the steps
 module _ (f : Tally → ℕ) (w : Outcome → ℕ) (each : (t : Tally) (k : ℕ) (o : Outcome) → f (counted t k o) ≡ f t + w o) where
-  pub tallied-sum : (t : Tally) (c : Course) → f (tallied t c .tally) ≡ f t + sumOf w (stepsOf c)
-  unfolding tallied stepsOf sumOf
+  pub tallied-sum : (t : Tally) (c : Course) → f (tallied t c .tally) ≡ f t + sum w (stepsOf c)
+  unfolding tallied stepsOf sum
   tallied-sum t (stops stop) = sym (add-zero (f t))
   tallied-sum t (applies bytes o rest) =
       let here = each t (length bytes) o in
       let later = tallied-sum (counted t (length bytes) o) rest in
       omega arith
 
-sum-one : (os : List Outcome) → sumOf (λ o. 1) os ≡ length os
-unfolding sumOf
+sum-one : (os : List Outcome) → sum (λ o. 1) os ≡ length os
+unfolding sum
 sum-one [] = refl
 sum-one (o ∷ os) =
     let rest = sum-one os in
@@ -59,13 +61,13 @@ module _ (s : State) (log : List ℕ) (budget : ℕ) (taken : run s log budget .
   summed : (f : Tally → ℕ) (w : Outcome → ℕ)
       → ((t : Tally) (k : ℕ) (o : Outcome) → f (counted t k o) ≡ f t + w o)
       → f (fresh s) ≡ 0
-      → f (run s log budget .tally) ≡ sumOf w the-steps
+      → f (run s log budget .tally) ≡ sum w the-steps
   unfolding the-steps
   summed f w each none =
       ap (λ r. f (r .tally)) is-go
       ∙ tallied-sum f w each (fresh s) (course budget s log)
-      ∙ ap (λ x. x + sumOf w (steps budget s log)) none
-      ∙ zero-add (sumOf w (steps budget s log))
+      ∙ ap (λ x. x + sum w (steps budget s log)) none
+      ∙ zero-add (sum w (steps budget s log))
 
   -- "Records read are the steps taken"
   -- promise
@@ -77,7 +79,7 @@ module _ (s : State) (log : List ℕ) (budget : ℕ) (taken : run s log budget .
   -- promise
   pub run-refused :
       run s log budget .tally .refused
-      ≡ sumOf (λ o. cond (eqb (o .code) refusal.accepted) 0 1) (steps budget s log)
+      ≡ sum (λ o. cond (eqb (o .code) refusal.accepted) 0 1) (steps budget s log)
   unfolding the-steps counted
   run-refused = summed (λ t. t .refused) (λ o. cond (eqb (o .code) refusal.accepted) 0 1) (λ t k o. refl) refl
 
@@ -85,41 +87,41 @@ module _ (s : State) (log : List ℕ) (budget : ℕ) (taken : run s log budget .
   -- promise
   pub run-request :
       run s log budget .tally .totals .request
-      ≡ sumOf (λ o. totalOf request (o .actions)) (steps budget s log)
+      ≡ sum (λ o. totalOf request (o .actions)) (steps budget s log)
   unfolding the-steps counted totalled
   run-request = summed (λ t. t .totals .request) (λ o. totalOf request (o .actions)) (λ t k o. refl) refl
 
   -- promise
   pub run-release :
       run s log budget .tally .totals .release
-      ≡ sumOf (λ o. totalOf release (o .actions)) (steps budget s log)
+      ≡ sum (λ o. totalOf release (o .actions)) (steps budget s log)
   unfolding the-steps counted totalled
   run-release = summed (λ t. t .totals .release) (λ o. totalOf release (o .actions)) (λ t k o. refl) refl
 
   -- promise
   pub run-incompatible :
       run s log budget .tally .totals .incompatible
-      ≡ sumOf (λ o. totalOf incompatible (o .actions)) (steps budget s log)
+      ≡ sum (λ o. totalOf incompatible (o .actions)) (steps budget s log)
   unfolding the-steps counted totalled
   run-incompatible = summed (λ t. t .totals .incompatible) (λ o. totalOf incompatible (o .actions)) (λ t k o. refl) refl
 
   -- promise
   pub run-initiate :
       run s log budget .tally .totals .initiate
-      ≡ sumOf (λ o. totalOf initiate (o .actions)) (steps budget s log)
+      ≡ sum (λ o. totalOf initiate (o .actions)) (steps budget s log)
   unfolding the-steps counted totalled
   run-initiate = summed (λ t. t .totals .initiate) (λ o. totalOf initiate (o .actions)) (λ t k o. refl) refl
 
   -- promise
   pub run-terminate :
       run s log budget .tally .totals .terminate
-      ≡ sumOf (λ o. totalOf terminate (o .actions)) (steps budget s log)
+      ≡ sum (λ o. totalOf terminate (o .actions)) (steps budget s log)
   unfolding the-steps counted totalled
   run-terminate = summed (λ t. t .totals .terminate) (λ o. totalOf terminate (o .actions)) (λ t k o. refl) refl
 
   -- promise
   pub run-established :
       run s log budget .tally .totals .established
-      ≡ sumOf (λ o. totalOf established (o .actions)) (steps budget s log)
+      ≡ sum (λ o. totalOf established (o .actions)) (steps budget s log)
   unfolding the-steps counted totalled
   run-established = summed (λ t. t .totals .established) (λ o. totalOf established (o .actions)) (λ t k o. refl) refl

@@ -19,7 +19,8 @@ use Rattle.record.specs.declared.take.Taken.the-variants.{Whole, Stopped, Refus
 use Rattle.record.proofs.Takes.{taken-short}
 use Rattle.unit.specs.States.{sound}
 use Rattle.unit.specs.OnRecords.{actionRoom, onRecord}
-use Rattle.unit.specs.Runs.{course, counted, noTotals, fresh, tallied, go, runRefused, run, StopsBy}
+use Rattle.unit.specs.Runs.{course, counted, noTotals, fresh, tallied, go, runRefused, run}
+use Rattle.unit.specs.RunWords.{StopsBy}
 use Rattle.unit.specs.declared.state.State.{State}
 use Rattle.unit.specs.declared.run.Tally.{Tally}
 use Rattle.unit.specs.declared.run.Report.{Report}

@@ -1,7 +1,7 @@
 -- The counts of a run, one record more.
 -- Proves: totalled-none, totalled-append, totalled-one, totalled-sending, below-more, added-below, counted-made, counted-refused,
 -- counted-kept, totalled-below, bounded-fresh, bounded-next.
-use mathlib.Core.Path.{_≡_, refl, sym, ap, _∙_}
+use mathlib.Core.Path.{_≡_, sym, ap, _∙_}
 use mathlib.Core.Bool.{Bool, true, false, cond}
 use mathlib.Core.List.{List, [], _∷_, _++_, map, map-append}
 use Prim.Native.Nat.{ℕ, suc, _+_, _*_, _≤_}
@@ -21,6 +21,7 @@ use Rattle.unit.specs.Changes.{given, sending, settled, made}
 use Rattle.unit.specs.declared.change.Change.{Change}
 use Rattle.unit.specs.declared.state.State.{State}
 use Rattle.unit.specs.declared.answer.Action.{Action}
+use Rattle.wire.specs.Bytes.{asBit}
 use Rattle.unit.specs.Runs.{totalOf, totalled, fresh, counted}
 use Rattle.unit.specs.Counting.{added, Below, Bounded, tallyOf, refusedRest, acceptedRest}
 use Rattle.unit.specs.declared.run.Totals.{Totals}
@@ -41,9 +42,9 @@ totalled-none t =
       established = add-zero (t .established) i;
     }
 
-one-more : (b : Bool) (x c : ℕ) → x + cond b (suc c) c ≡ cond b (x + 1) x + c
+one-more : (b : Bool) (x c : ℕ) → x + (asBit b + c) ≡ cond b (x + 1) x + c
 one-more true x c = omega arith
-one-more false x c = refl
+one-more false x c = omega arith
 
 -- the first action is counted, then the others
 totalled-cons : (t : Totals) (a : Action) (acts : List Action) → totalled t (a ∷ acts) ≡ totalled (added t (a .number)) acts
@@ -194,9 +195,7 @@ unfolding totalOf
 count-few number [] = omega arith
 count-few number (a ∷ acts) =
     let rest = count-few number acts in
-    cond-holds (λ c. c ≤ suc (length acts)) (eqb (a .number) number) (suc (totalOf number acts)) (totalOf number acts)
-    (omega arith)
-    (omega arith)
+    cond-holds (λ c. c + totalOf number acts ≤ suc (length acts)) (eqb (a .number) number) 1 0 (omega arith) (omega arith)
 
 pub totalled-below : (b c : ℕ) (t : Totals) (acts : List Action) → length acts ≤ c → Below b t → Below (b + c) (totalled t acts)
 unfolding totalled

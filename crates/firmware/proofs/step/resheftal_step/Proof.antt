@@ -92,26 +92,36 @@ returns-3 c =
     (refusing .if3 .taken)
     (back _ _ (c .minus3 .ensures))
 
+-- the step is accepted
+module _ (c : tie.Else3) where
+  abbrev stepped : tie.After-on-record
+  stepped = c .before .before .before .before
+
 number-requires : tie.Need-number-requires
 number-requires c κs =
-    let stepped = c .before .before .before .before .before .before .before .before .before in
-    let from = held stepped in
-    let on = stepped .on-record in
+    let wrote = c .before .before in
+    let writing = wrote .before in
+    let done = stepped (writing .before .before) in
+    let from = held done in
+    let on = done .on-record in
     few-step (image from) (bytes from) (actions from) _ _ (on .result)
-    (room from) (read stepped) (state from) (on .ensures .0) (on .ensures .1)
+    (room from) (read done) (state from) (on .ensures .0) (on .ensures .1)
 
 returns-4 : tie.Need-returns-4
 unfolding seenAfter
 returns-4 c =
-    let accepting = c .before .before .before .before .before .before in
-    let stepped = accepting .before .before .before .before in
-    let from = held stepped in
-    let on = stepped .on-record in
+    let counted = c .before in
+    let wrote = counted .before .before in
+    let writing = wrote .before in
+    let accepting = writing .before .before in
+    let done = stepped accepting in
+    let from = held done in
+    let on = done .on-record in
     done-step (image from) (bytes from) (actions from) _ _ (on .result)
-    (room from) (read stepped) (state from) (on .ensures .0) (on .ensures .1) _ _
+    (room from) (read done) (state from) (on .ensures .0) (on .ensures .1) _ _
     (accepting .if3 .left)
     (back _ _ (c .number .ensures))
-    (c .before .before .before .write-a2 .ensures .1)
+    (wrote .write-a2 .ensures .1)
 
 pub resheftal-step-spec : {M : Type 1} → statement M
 resheftal-step-spec =

@@ -13,11 +13,16 @@ returns c = last-none (now (c .before .before .before .args .s)) _ (c .before .b
 returns-2 : tie.Need-returns-2
 unfolding stateIn
 returns-2 c =
-    let start = c .before .before .before .before .before .before in
-    let flag = c .before .before .before .before .byte-at in
-    last-some (now (start .args .s)) _ (flag .ensures) _ _ _ (c .before .before .byte-at2 .ensures) (c .before .byte-at3 .ensures)
+    let middle = c .before in
+    let high = middle .before in
+    let some = high .before in
+    let flag = some .before in
+    let start = flag .before .before in
+    last-some (now (start .args .s)) _ (flag .byte-at .ensures) _ _ _
+    (high .byte-at2 .ensures)
+    (middle .byte-at3 .ensures)
     (c .byte-at4 .ensures)
-    (c .before .before .before .if1 .left)
+    (some .if1 .left)
 
 pub last-in-spec : {M : Type 1} → statement M
 last-in-spec =

@@ -26,9 +26,17 @@ returns-2 c =
     let phase = some .before in
     let start = phase .before .before in
     c .held .ensures
-    ∙ place-held (now (start .args .s)) (start .args .at) _ _ _ _ _ _ _ _ _ (phase .byte-at .ensures) (direction .byte-at2 .ensures)
-    (tries .byte-at3 .ensures) (kind .byte-at4 .ensures) (high .byte-at5 .ensures) (middle .byte-at6 .ensures)
-    (low .byte-at7 .ensures) (some .if1 .left) (directed .direction-of .ensures) (c .before .phase-of .ensures)
+    ∙ place-held (now (start .args .s)) (start .args .at) _ _ _ _ _ _ _ _ _
+    (phase .byte-at .ensures)
+    (direction .byte-at2 .ensures)
+    (tries .byte-at3 .ensures)
+    (kind .byte-at4 .ensures)
+    (high .byte-at5 .ensures)
+    (middle .byte-at6 .ensures)
+    (low .byte-at7 .ensures)
+    (some .if1 .left)
+    (directed .direction-of .ensures)
+    (c .before .phase-of .ensures)
 
 pub place-at-spec : {M : Type 1} → statement M
 place-at-spec =

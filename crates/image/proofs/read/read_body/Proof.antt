@@ -1,42 +1,61 @@
 -- Soundness is tested, then whether the state writes these bytes.
 use borrow.Author.Needs.{needs}
-use mathlib.Core.Path.{refl, sym, _∙_}
-use mathlib.Core.Bool.{true, false}
+use mathlib.Core.Path.{_≡_, refl, sym, _∙_}
+use mathlib.Core.Bool.{Bool, true, false, cond, _&&_}
+use mathlib.Core.List.{List}
+use Prim.Native.Nat.{ℕ}
 use denote.Ref.{now}
+use Rattle.wire.specs.Refusals.{accepted, notSound}
+use Rattle.unit.specs.declared.state.State.{State}
+use Rattle.image.specs.Images.{wholeBytes, sameBytes, readRefused}
+use Rattle.image.specs.Bodies.{readBody}
 use Rattle.image.proofs.Taking.{body-by}
 use Rattle.image.proofs.read.read_body.Statement.{statement}
 use Rattle.image.proofs.read.read_body.Tie as tie
+
+-- the state that was read
+module _ (c : tie.After-is-sound) where
+  abbrev read : tie.After-state-in
+  read = c .before
+
+  abbrev body : List ℕ
+  body = now (read .before .before .args .body)
+
+  abbrev state : State
+  state = read .state-in .result
+
+  reads-by : (good own : Bool)
+      → c .is-sound .result ≡ good
+      → sameBytes (wholeBytes state) body ≡ own
+      → cond (good && own) (record { code = accepted; state = state }) (readRefused notSound) ≡ readBody body
+  reads-by good own test written =
+      body-by body state good own (read .state-in .ensures) (sym (c .is-sound .ensures) ∙ test) written
+
+-- a sound one, by whether it writes these bytes
+module _ (c : tie.After-writes) where
+  abbrev sound-read : tie.After-is-sound
+  sound-read = c .before .before
+
+  reads : (own : Bool)
+      → c .writes .result ≡ own
+      → cond own (record { code = accepted; state = state sound-read }) (readRefused notSound) ≡ readBody (body sound-read)
+  reads own test = reads-by sound-read true own (c .before .if1 .taken) (sym (c .writes .ensures) ∙ test)
 
 writes-requires : tie.Need-writes-requires
 writes-requires c κs = sym (c .before .is-sound .ensures) ∙ c .if1 .taken
 
 returns : tie.Need-returns
-returns c =
-    let start = c .before .before .before .before .before .before in
-    let decoded = c .before .before .before .before .state-in in
-    let tested = c .before .before .before .is-sound in
-    body-by (now (start .args .body)) (decoded .result) true true (decoded .ensures)
-    (sym (tested .ensures) ∙ c .before .before .if1 .taken)
-    (sym (c .before .writes .ensures) ∙ c .if2 .taken)
+returns c = reads (c .before) true (c .if2 .taken)
 
 returns-2 : tie.Need-returns-2
 returns-2 c =
-    let start = c .before .before .before .before .before .before .before in
-    let decoded = c .before .before .before .before .before .state-in in
-    let tested = c .before .before .before .before .is-sound in
-    c .refused .ensures
-    ∙ body-by (now (start .args .body)) (decoded .result) true false (decoded .ensures)
-    (sym (tested .ensures) ∙ c .before .before .before .if1 .taken)
-    (sym (c .before .before .writes .ensures) ∙ c .before .if2 .left)
+    let other = c .before in
+    c .refused .ensures ∙ reads (other .before) false (other .if2 .left)
 
 returns-3 : tie.Need-returns-3
 returns-3 c =
-    let start = c .before .before .before .before .before in
-    let decoded = c .before .before .before .state-in in
-    c .refused2 .ensures
-    ∙ body-by (now (start .args .body)) (decoded .result) false _ (decoded .ensures)
-    (sym (c .before .before .is-sound .ensures) ∙ c .before .if1 .left)
-    refl
+    let bad = c .before in
+    c .refused2 .ensures ∙ reads-by (bad .before) false _ (bad .if1 .left) refl
 
 pub read-body-spec : {M : Type 1} → statement M
 read-body-spec =

@@ -6,7 +6,7 @@ use native.Mathlib.Omega.{arith}
 use denote.Ref.{now}
 use lib.ListN.{length, getD, set, length-set}
 use Rattle.place.specs.Places.{fleetTries}
-use Rattle.image.specs.Images.{readBody}
+use Rattle.image.specs.Bodies.{readBody}
 use Rattle.image.proofs.Taking.{CopiedTo, copy-more, copy-length, copy-end}
 use Rattle.image.proofs.read.read_body_a1.Statement.{statement}
 use Rattle.image.proofs.read.read_body_a1.Tie as tie
@@ -19,6 +19,11 @@ abbrev μ-loop : tie.MeasureT-loop
 
 loop-holds : tie.Need-loop-holds Inv-loop μ-loop
 loop-holds c = (omega arith, refl)
+
+shared-slice-read-whole : tie.Need-shared-slice-read-whole Inv-loop μ-loop
+shared-slice-read-whole c =
+    let at = c .before .before in
+    omega (arith, at .before .before .pre)
 
 loop-again : tie.Need-loop-again Inv-loop μ-loop
 loop-again c =
@@ -53,6 +58,6 @@ returns c =
 pub read-body-a1-spec : {M : Type 1} → statement M
 read-body-a1-spec =
     tie.close
-    (tie.spec Inv-loop μ-loop loop-holds (λ c. omega (arith, c .before .before .before .before .pre)) (λ c. omega arith)
-    (λ c. omega arith) (λ c. omega arith) loop-again (λ c. search needs) slice-aggregate-read-body
+    (tie.spec Inv-loop μ-loop loop-holds shared-slice-read-whole (λ c. omega arith) (λ c. omega arith) (λ c. omega arith)
+    loop-again (λ c. search needs) slice-aggregate-read-body
     (λ c κs. search needs) returns)

@@ -20,7 +20,8 @@ loop-holds c = (omega arith, refl)
 
 loop-again : tie.Need-loop-again Inv-loop μ-loop
 loop-again c =
-    let at = c .before .before .before .before in
+    let more = c .before .before .before in
+    let at = more .before in
     let start = at .before .before in
     let a = now (start .args .a) in
     let b = now (start .args .b) in

@@ -12,20 +12,27 @@ use Rattle.image.proofs.read.state_in.Tie as tie
 returns : tie.Need-returns
 unfolding stateIn placesIn
 returns c =
-    let body = now (c .before .before .before .before .before .before .before .before .before .args .body) in
+    let at-29 = c .before in
+    let at-22 = at-29 .before in
+    let at-15 = at-22 .before in
+    let at-8 = at-15 .before in
+    let marks = at-8 .before in
+    let train = marks .before in
+    let limits = train .before in
+    let body = now (limits .before .before .args .body) in
     let second = drop-drop 7 8 body in
     let third = ap (drop 7) second ∙ drop-drop 7 15 body in
     let fourth = ap (drop 7) third ∙ drop-drop 7 22 body in
     λ i.
     record {
-      limits = c .before .before .before .before .before .before .before .limits-in .ensures i;
-      train = c .before .before .before .before .before .before .train-in .ensures i;
-      marks = c .before .before .before .before .before .marks-in .ensures i;
+      limits = limits .limits-in .ensures i;
+      train = train .train-in .ensures i;
+      marks = marks .marks-in .ensures i;
       places =
-          c .before .before .before .before .place-at .ensures i
-          ∷ (c .before .before .before .place-at2 .ensures ∙ ap placeIn (sym second)) i
-          ∷ (c .before .before .place-at3 .ensures ∙ ap placeIn (sym third)) i
-          ∷ (c .before .place-at4 .ensures ∙ ap placeIn (sym fourth)) i
+          at-8 .place-at .ensures i
+          ∷ (at-15 .place-at2 .ensures ∙ ap placeIn (sym second)) i
+          ∷ (at-22 .place-at3 .ensures ∙ ap placeIn (sym third)) i
+          ∷ (at-29 .place-at4 .ensures ∙ ap placeIn (sym fourth)) i
           ∷ [];
       last = c .last-in .ensures i;
     }

@@ -11,8 +11,10 @@ use Rattle.image.proofs.read.writes.Tie as tie
 
 returns : tie.Need-returns
 returns c =
-    let start = c .before .before .before .before .before .before .before in
-    let put = c .before .before .before .before .put-image in
+    let lent = c .before in
+    let wrote = lent .before .before .before in
+    let start = wrote .before .before .before in
+    let put = wrote .put-image in
     let state = start .args .state in
     c .same .ensures
     ∙ ap (λ l. sameBytes l (now (start .args .body)))

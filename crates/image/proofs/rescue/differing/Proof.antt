@@ -1,7 +1,8 @@
 -- The fields passed, listed where they differ.
 use borrow.Author.Needs.{needs}
 use mathlib.Core.Path.{_≡_, ap, _∙_}
-use Prim.Native.Nat.{_-_, _≤_}
+use mathlib.Core.List.{List}
+use Prim.Native.Nat.{ℕ, _-_, _≤_}
 use native.Mathlib.Omega.{arith}
 use denote.Ref.{now}
 use lib.ListN.{take}
@@ -23,34 +24,45 @@ loop-holds : tie.Need-loop-holds Inv-loop μ-loop
 unfolding changed
 loop-holds c = (omega arith, c .nothing .ensures)
 
+-- the two images, and the fields passed
+module _ (c : tie.At-loop Inv-loop μ-loop) where
+  abbrev none : tie.After-nothing Inv-loop μ-loop
+  none = c .before
+
+  abbrev start : tie.Start Inv-loop μ-loop
+  start = none .before .before .before
+
+  abbrev old : List ℕ
+  old = now (start .args .old)
+
+  abbrev new : List ℕ
+  new = now (start .args .new)
+
 note-requires : tie.Need-note-requires Inv-loop μ-loop
 note-requires c κs =
     let at = c .before in
     let passed = at .loop in
-    let start = at .before .before .before .before in
     let counted = ap (λ (r : Rescued). r .count) (passed .inv .1) in
-    let few = changed-few (now (start .args .old)) (now (start .args .new)) (take (passed .i) fieldOffsets) in
+    let few = changed-few (old at) (new at) (take (passed .i) fieldOffsets) in
     let shorter = length-take-le (passed .i) fieldOffsets (passed .inv .0) in
-    (omega (arith, counted, few, shorter), (start .pre .0, (start .pre .1, field-fits (passed .i))))
+    (omega (arith, counted, few, shorter), (start at .pre .0, (start at .pre .1, field-fits (passed .i))))
 
 loop-again : tie.Need-loop-again Inv-loop μ-loop
 loop-again c =
-    let start = c .before .before .before .before .before .before in
-    let passed = c .before .before .loop in
-    let old = now (start .args .old) in
-    let new = now (start .args .new) in (
+    let inside = c .before in
+    let at = inside .before in
+    let passed = at .loop in (
       omega arith,
-      c .note .ensures (changed (take (passed .i) fieldOffsets) old new) (passed .inv .1)
-          ∙ ap (listing accepted) (changed-more old new fieldOffsets (passed .i) (c .before .loop-test .taken)),
+      c .note .ensures (changed (take (passed .i) fieldOffsets) (old at) (new at)) (passed .inv .1)
+          ∙ ap (listing accepted) (changed-more (old at) (new at) fieldOffsets (passed .i) (inside .loop-test .taken)),
     )
 
 returns : tie.Need-returns Inv-loop μ-loop
 returns c =
     let at = c .before in
     let passed = at .loop in
-    let start = at .before .before .before .before in
     let all : passed .i ≡ 11 = omega arith in
-    passed .inv .1 ∙ ap (λ k. listing accepted (changed (take k fieldOffsets) (now (start .args .old)) (now (start .args .new)))) all
+    passed .inv .1 ∙ ap (λ k. listing accepted (changed (take k fieldOffsets) (old at) (new at))) all
 
 pub differing-spec : {M : Type 1} → statement M
 differing-spec =

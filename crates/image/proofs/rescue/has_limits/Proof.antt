@@ -13,9 +13,11 @@ use Rattle.image.proofs.rescue.has_limits.Tie as tie
 
 returns : tie.Need-returns
 returns c =
-    let image = now (c .before .before .before .before .before .args .image) in
-    let limits = c .before .before .limits-in in
-    ap (λ r. eqb (r .code) accepted) (c .before .cold-start .ensures)
+    let started = c .before in
+    let read = started .before in
+    let image = now (read .before .before .before .args .image) in
+    let limits = read .limits-in in
+    ap (λ r. eqb (r .code) accepted) (started .cold-start .ensures)
     ∙ limits-started (limits .result)
     ∙ ap limitsOk (limits .ensures ∙ ap (λ body. stateIn body .limits) (part-all image 1))
 

@@ -8,19 +8,28 @@ use Rattle.image.proofs.Rescuing.{part-of}
 use Rattle.image.proofs.rescue.is_kept.Statement.{statement}
 use Rattle.image.proofs.rescue.is_kept.Tie as tie
 
+-- the size of the field
+module _ (c : tie.After-size-of) where
+  abbrev start : tie.Start
+  start = c .before .before .before
+
 add-end : tie.Need-add-end
-add-end c = omega (arith, c .before .before .before .pre .1 .1, c .size-of .ensures)
+add-end c = omega (arith, start c .pre .1 .1, c .size-of .ensures)
 
 part-same-end : tie.Need-part-same-end
-part-same-end c = omega (arith, c .before .before .before .pre, c .size-of .ensures)
+part-same-end c = omega (arith, start c .pre, c .size-of .ensures)
 
 part-same-end-2 : tie.Need-part-same-end-2
-part-same-end-2 c = omega (arith, c .before .before .before .before .pre, c .before .size-of .ensures)
+part-same-end-2 c =
+    let sized = c .before in
+    omega (arith, start sized .pre, sized .size-of .ensures)
 
 returns : tie.Need-returns
 returns c =
-    let args = c .before .before .before .before .before .before .args in
-    let size = c .before .before .before .size-of in
+    let lent = c .before in
+    let sized = lent .before .before in
+    let args = start sized .args in
+    let size = sized .size-of in
     c .same .ensures
     ∙ ap₂ sameBytes (part-of (args .at) (size .result) (now (args .old)) (size .ensures))
     (part-of (args .at) (size .result) (now (args .new)) (size .ensures))

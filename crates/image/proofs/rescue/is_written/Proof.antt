@@ -9,9 +9,11 @@ use Rattle.image.proofs.rescue.is_written.Tie as tie
 
 returns : tie.Need-returns
 returns c =
-    let args = c .before .before .before .before .before .before .before .args in
-    let put = c .before .before .before .before .put-place .ensures in
-    c .same .ensures ∙ ap₂ sameBytes (put ∙ seven-written (args .place .holding)) (part-seven (args .at) (now (args .body)))
+    let lent = c .before in
+    let put = lent .before .before .before in
+    let args = put .before .before .before .args in
+    c .same .ensures
+    ∙ ap₂ sameBytes (put .put-place .ensures ∙ seven-written (args .place .holding)) (part-seven (args .at) (now (args .body)))
 
 pub is-written-spec : {M : Type 1} → statement M
 is-written-spec =

@@ -8,7 +8,8 @@ use denote.Ref.{now}
 use lib.ListN.{drop}
 use Rattle.unit.specs.declared.last.Last.{Last}
 use Rattle.unit.specs.declared.last.Last.the-variants.{Unknown, Known}
-use Rattle.image.specs.Images.{lastAt, lastIn, stateIn}
+use Rattle.image.specs.Images.{lastIn, stateIn}
+use Rattle.image.specs.Bodies.{lastFrom}
 use Rattle.image.specs.Rescue.{mendLast}
 use Rattle.image.proofs.Rescuing.{mendLast-by, mendLast-none}
 use Rattle.image.proofs.rescue.mend_last.Statement.{statement}
@@ -19,7 +20,7 @@ unfolding stateIn
 returns c =
     let read = c .before .before in
     let start = read .before .before in
-    mendLast-none (drop lastAt (now (start .args .body))) (sym (read .last-in .ensures) ∙ c .enum-told .given .1)
+    mendLast-none (drop lastFrom (now (start .args .body))) (sym (read .last-in .ensures) ∙ c .enum-told .given .1)
 
 -- an RBC that was read
 module _ (c : tie.After-can-be-named) where
@@ -30,7 +31,7 @@ module _ (c : tie.After-can-be-named) where
   read = known .before .before
 
   abbrev bytes : List ℕ
-  bytes = drop lastAt (now (read .before .before .args .body))
+  bytes = drop lastFrom (now (read .before .before .args .body))
 
   abbrev last : Last
   last = Known (known .last .given .0 .0) (known .last .given .0 .1 .0) (known .last .given .0 .1 .1 .0)

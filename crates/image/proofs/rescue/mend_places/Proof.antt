@@ -7,15 +7,22 @@ use Rattle.image.proofs.rescue.mend_places.Tie as tie
 
 returns : tie.Need-returns
 returns c =
-    let start = c .before .before .before .before .before .before .before .before .before in
+    let at-29 = c .before in
+    let second = at-29 .before in
+    let at-22 = second .before in
+    let first = at-22 .before in
+    let at-15 = first .before in
+    let at-8 = at-15 .before in
+    let none = at-8 .before in
+    let start = none .before .before in
     places-upwards (start .args .limits) (now (start .args .body)) _ _ _ _ _ _ _ _
-    (c .before .before .before .before .before .before .before .free .ensures)
-    (c .before .before .before .before .before .before .mend-place .ensures)
-    (c .before .before .before .before .before .mend-place2 .ensures)
-    (c .before .before .before .mend-place3 .ensures)
-    (c .before .mend-place4 .ensures)
-    (c .before .before .before .before .keep .ensures)
-    (c .before .before .keep2 .ensures)
+    (none .free .ensures)
+    (at-8 .mend-place .ensures)
+    (at-15 .mend-place2 .ensures)
+    (at-22 .mend-place3 .ensures)
+    (at-29 .mend-place4 .ensures)
+    (first .keep .ensures)
+    (second .keep2 .ensures)
     (c .keep3 .ensures)
 
 pub mend-places-spec : {M : Type 1} → statement M

@@ -13,14 +13,18 @@ use Rattle.image.proofs.rescue.mended.Tie as tie
 returns : tie.Need-returns
 unfolding mended
 returns c =
-    let start = c .before .before .before .before .before .before .before .before in
-    let limits = c .before .before .before .before .before .before .limits-in .ensures in
-    let train =
-    c .before .before .before .mend-train .ensures ∙ ap mendTrain (c .before .before .before .before .before .train-in .ensures) in
-    let marks = c .before .before .mend-marks .ensures ∙ ap mendMarks (c .before .before .before .before .marks-in .ensures) in
-    let places =
-    c .before .mend-places .ensures
-    ∙ ap (λ l. keepFirst [] (mendPlaces l placeCount (drop headSize (now (start .args .body))))) limits in
+    let put = c .before in
+    let marked = put .before in
+    let trained = marked .before in
+    let marks-read = trained .before in
+    let train-read = marks-read .before in
+    let limits-read = train-read .before in
+    let start = limits-read .before .before in
+    let limits = limits-read .limits-in .ensures in
+    let train = trained .mend-train .ensures ∙ ap mendTrain (train-read .train-in .ensures) in
+    let marks = marked .mend-marks .ensures ∙ ap mendMarks (marks-read .marks-in .ensures) in
+    let body = now (start .args .body) in
+    let places = put .mend-places .ensures ∙ ap (λ l. keepFirst [] (mendPlaces l placeCount (drop headSize body))) limits in
     λ i. record { limits = limits i; train = train i; marks = marks i; places = places i; last = c .mend-last .ensures i }
 
 pub mended-spec : {M : Type 1} → statement M

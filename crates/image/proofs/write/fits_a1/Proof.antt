@@ -6,8 +6,9 @@ use Rattle.image.proofs.write.fits_a1.Tie as tie
 
 returns : tie.Need-returns
 returns c =
-    let start = c .before .before .before .before in
-    fits-unknown (start .args .state) (c .before .enum-told .given .1)
+    let none = c .before in
+    let start = none .before .before .before in
+    fits-unknown (start .args .state) (none .enum-told .given .1)
 
 returns-2 : tie.Need-returns-2
 returns-2 c =

@@ -9,8 +9,16 @@ use Rattle.image.proofs.write.put_head.Tie as tie
 
 -- before the stores
 module _ (c : tie.After-marks) where
+  abbrev trained : tie.After-train
+  trained = c .before
+
   abbrev start : tie.Start
-  start = c .before .before .before .before
+  start = trained .before .before .before
+
+-- the level, the mission and inside are stored
+module _ (c : tie.After-mark-byte) where
+  abbrev unstored : tie.After-marks
+  unstored = c .before .before .before
 
 slice-write-s-2 : tie.Need-slice-write-s-2
 slice-write-s-2 c = simp length-set (omega (arith, start c .pre .0))
@@ -31,18 +39,18 @@ slice-write-s-5 : tie.Need-slice-write-s-5
 slice-write-s-5 c = simp length-set (omega (arith, start (c .before .before) .pre .0))
 
 slice-write-s-6 : tie.Need-slice-write-s-6
-slice-write-s-6 c = simp length-set (omega (arith, start (c .before .before .before) .pre .0))
+slice-write-s-6 c = simp length-set (omega (arith, start (unstored c) .pre .0))
 
 slice-write-s-7 : tie.Need-slice-write-s-7
-slice-write-s-7 c =
-    let mission-put = c .before .before in
-    simp length-set (omega (arith, start (mission-put .before .before) .pre .0))
+slice-write-s-7 c = simp length-set (omega (arith, start (unstored (c .before)) .pre .0))
 
 slice-write-s-8 : tie.Need-slice-write-s-8
-slice-write-s-8 c = simp length-set (omega (arith, start (c .before .before .before .before .before) .pre .0))
+slice-write-s-8 c = simp length-set (omega (arith, start (unstored (c .before .before)) .pre .0))
 
 slice-write-s-9 : tie.Need-slice-write-s-9
-slice-write-s-9 c = simp length-set (omega (arith, start (c .before .before .before .before .before .before) .pre .0))
+slice-write-s-9 c =
+    let mode-put = c .before .before in
+    simp length-set (omega (arith, start (unstored (mode-put .before)) .pre .0))
 
 returns : tie.Need-returns
 returns c =
@@ -50,7 +58,7 @@ returns c =
     let inside-put = mode-put .before in
     let mission-put = inside-put .before in
     let level-put = mission-put .before in
-    let args = start (level-put .before) .args in
+    let args = start (unstored inside-put) .args in
     let limits = args .state .limits in
     let level = level-put .narrow .ensures in
     let mission = mission-put .narrow2 .ensures in

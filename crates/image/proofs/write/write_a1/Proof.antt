@@ -23,14 +23,15 @@ put-body-requires c κs =
 returns-2 : tie.Need-returns-2
 unfolding imageA1
 returns-2 c =
-    let old = c .before .before .before .before in
+    let wrote = c .before .before in
+    let old = wrote .before .before in
     let sure = old .before .before in
     let tested = sure .before in
     let room = tested .before in
     let start = room .before .before in
     let good = sym (tested .is-sound .ensures) ∙ sure .if2 .taken in
     let fits = sym (old .before .fits-a1 .ensures) ∙ old .if3 .taken in
-    wrote-a1 (start .args .state) (now (start .args .buffer)) (room .if1 .left) _ good fits (c .before .before .put-body .ensures)
+    wrote-a1 (start .args .state) (now (start .args .buffer)) (room .if1 .left) _ good fits (wrote .put-body .ensures)
 
 returns-3 : tie.Need-returns-3
 returns-3 c =

@@ -19,12 +19,13 @@ put-image-requires c κs =
 
 returns-2 : tie.Need-returns-2
 returns-2 c =
-    let sure = c .before .before .before .before in
+    let wrote = c .before .before in
+    let sure = wrote .before .before in
     let tested = sure .before in
     let room = tested .before in
     let start = room .before .before in
     let good = sym (tested .is-sound .ensures) ∙ sure .if2 .taken in
-    wrote-a2 (start .args .state) (now (start .args .buffer)) (room .if1 .left) _ good (c .before .before .put-image .ensures)
+    wrote-a2 (start .args .state) (now (start .args .buffer)) (room .if1 .left) _ good (wrote .put-image .ensures)
 
 returns-3 : tie.Need-returns-3
 returns-3 c =

@@ -1,8 +1,14 @@
 -- The whole table is the one of 01, and outside it stands "no".
 use borrow.Author.Needs.{needs}
-use mathlib.Core.Path.{refl}
-use mathlib.Core.List.{List, [], _∷_}
+use mathlib.Core.Path.{_≡_, refl}
+use mathlib.Core.List.{List, [], _∷_, map}
 use Prim.Native.Nat.{ℕ}
+use lib.ListN.{getD}
+use Rattle.place.specs.Table.{table}
+use Rattle.place.specs.Cells.{chosenTurn, rowNumber}
+use Rattle.place.specs.declared.phase.Phase.{Phase}
+use Rattle.place.specs.declared.phase.Phase.the-variants.{Connecting, Contacting, Open, Lost, Ending}
+use Rattle.place.specs.declared.limits.Limits.{Limits}
 use Rattle.place.proofs.Drawn.{entry-at, row-none, column-none}
 use Rattle.place.proofs.table.cell_at.Statement.{statement}
 use Rattle.place.proofs.table.cell_at.Tie as tie
@@ -17,10 +23,18 @@ numbered =
     ∷ (0 ∷ 0 ∷ 2 ∷ 8 ∷ 0 ∷ 2 ∷ [])
     ∷ []
 
+-- it draws the table of 01
+draws : (l : Limits) (v : ℕ) (ph : Phase) → map (chosenTurn l v ph) (getD numbered (rowNumber ph) []) ≡ table l v ph
+draws l v (Connecting t) = refl
+draws l v (Contacting t) = refl
+draws l v Open = refl
+draws l v (Lost t) = refl
+draws l v (Ending t) = refl
+
 returns : tie.Need-returns
 returns c =
     let start = c .before .before .before in
-    entry-at numbered (start .args .row) (start .args .column) refl
+    entry-at numbered (start .args .row) (start .args .column) draws
 
 returns-2 : tie.Need-returns-2
 returns-2 c =

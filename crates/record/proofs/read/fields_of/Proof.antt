@@ -4,9 +4,10 @@ use mathlib.Core.List.{List}
 use Prim.Native.Nat.{ℕ, _≤_}
 use denote.Ref.{now}
 use lib.ListN.{length}
-use Rattle.record.specs.Records.{lengthOf, bodyOf, fields}
+use Rattle.record.specs.Records.{lengthOf, rowOf}
+use Rattle.record.specs.Rows.{fields}
 use Rattle.record.specs.declared.event.Reading.{Reading}
-use Rattle.record.proofs.ByKind.{up, body-none, fields-at, long-at}
+use Rattle.record.proofs.ByKind.{past, row-none, fields-at, long-at}
 use Rattle.record.proofs.read.fields_of.Statement.{statement}
 use Rattle.record.proofs.read.fields_of.Tie as tie
 
@@ -21,7 +22,7 @@ module _ (c : tie.After-shared-slice-known) where
   long : (i : ℕ) → kind ≡ i → lengthOf i ≤ length s
   long i is = long-at s i is (c .before .pre)
 
-  means : (i : ℕ) (r : Reading) → kind ≡ i → r ≡ fields (bodyOf i) s → r ≡ fields (bodyOf kind) s
+  means : (i : ℕ) (r : Reading) → kind ≡ i → r ≡ fields (rowOf i) s → r ≡ fields (rowOf kind) s
   means i r is row = fields-at s kind i r is row
 
 returns : tie.Need-returns
@@ -58,14 +59,7 @@ returns-11 : tie.Need-returns-11
 returns-11 c = means (c .before .before) 11 _ (c .before .match .keys11) (c .message-body .ensures)
 
 returns-12 : tie.Need-returns-12
-returns-12 c =
-    let rest = c .match .rest in
-    sym
-    (ap (λ body. fields body (s (c .before)))
-    (body-none _
-    (λ h. up (up (up (up (up (up (up (up (up (up (up h (rest .0 .0 .0 .0 .0 .0 .0 .0 .0 .0 .1)) (rest .0 .0 .0 .0 .0 .0 .0 .0 .0 .1))
-    (rest .0 .0 .0 .0 .0 .0 .0 .0 .1)) (rest .0 .0 .0 .0 .0 .0 .0 .1)) (rest .0 .0 .0 .0 .0 .0 .1)) (rest .0 .0 .0 .0 .0 .1))
-    (rest .0 .0 .0 .0 .1)) (rest .0 .0 .0 .1)) (rest .0 .0 .1)) (rest .0 .1)) (rest .1))))
+returns-12 c = sym (ap (λ body. fields body (s (c .before))) (row-none _ (past 11 (c .match .rest))))
 
 pub fields-of-spec : {M : Type 1} → statement M
 fields-of-spec =

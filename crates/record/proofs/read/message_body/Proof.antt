@@ -13,11 +13,11 @@ use denote.Ref.{now}
 
 returns : tie.Need-returns
 returns c =
-    let start = c .before .before .before .before .before in
-    let s = now (start .args .s) in
+    let read = c .before .before .before in
+    let s = now (read .before .before .args .s) in
     c .message-of .ensures
     ∙ ap (λ p. cond (namedOk p && messageOk (byte s 5) (byte s 6)) (Meant (messageMeans (byte s 5) (byte s 6) p)) (Refused outOfRange))
-    (c .before .before .before .partner-in .ensures)
+    (read .partner-in .ensures)
 
 pub message-body-spec : {M : Type 1} → statement M
 message-body-spec =

@@ -11,7 +11,10 @@ returns-2 : tie.Need-returns-2
 returns-2 c = rw (c .before .before .if2 .taken) cc
 
 returns-3 : tie.Need-returns-3
-returns-3 c = simp (ne-eqb _ _ (c .before .before .before .if2 .left), ne-eqb _ _ (c .before .before .before .before .if1 .left)) cc
+returns-3 c =
+    let no-call = c .before .before .before in
+    let no-version = no-call .before in
+    simp (ne-eqb _ _ (no-call .if2 .left), ne-eqb _ _ (no-version .if1 .left)) cc
 
 pub message-of-spec : {M : Type 1} → statement M
 message-of-spec =

@@ -11,11 +11,13 @@ use Rattle.record.proofs.read.partner_body.Tie as tie
 
 returns : tie.Need-returns
 returns c =
-    let start = c .before .before .before .before in
-    let partner = c .before .before .partner-in in
+    let asked = c .before in
+    let read = asked .before in
+    let start = read .before .before in
+    let partner = read .partner-in in
     c .within .ensures
     ∙ ap₂ (λ ok p. cond ok (Meant (Named p (start .args .event))) (Refused outOfRange))
-    (c .before .can-be-named .ensures ∙ ap namedOk (partner .ensures))
+    (asked .can-be-named .ensures ∙ ap namedOk (partner .ensures))
     (partner .ensures)
 
 pub partner-body-spec : {M : Type 1} → statement M

@@ -1,45 +1,83 @@
 -- The stops in their order.
 use borrow.Author.Needs.{needs}
-use mathlib.Core.Path.{ap, _∙_}
+use mathlib.Core.Path.{_≡_, ap, _∙_}
+use mathlib.Core.List.{List}
+use Prim.Native.Nat.{ℕ, _≤_, _<_}
 use native.Mathlib.Omega.{arith}
 use denote.Ref.{now}
-use Rattle.record.specs.Records.{reading}
+use lib.ListN.{length, getD}
+use Rattle.record.specs.Records.{lengthOf, reading}
 use Rattle.record.proofs.ByKind.{length-some}
 use Rattle.record.proofs.Takes.{take-end, take-unknown, take-short, part-is, part-reads, take-whole}
 use Rattle.record.proofs.take.take_one.Statement.{statement}
 use Rattle.record.proofs.take.take_one.Tie as tie
 
 returns : tie.Need-returns
-returns c = take-end (now (c .before .before .args .log)) (c .before .before .args .at) (c .if1 .taken)
+returns c =
+    let start = c .before .before in
+    take-end (now (start .args .log)) (start .args .at) (c .if1 .taken)
+
+-- some of the log is left: its first byte
+module _ (c : tie.After-shared-slice-known2) where
+  abbrev some : tie.Else1
+  some = c .before
+
+  abbrev start : tie.Start
+  start = some .before .before
+
+  abbrev log : List ℕ
+  log = now (start .args .log)
+
+  abbrev at : ℕ
+  at = start .args .at
+
+  abbrev kind : ℕ
+  kind = getD log at 0
+
+  below : at < length log
+  below = some .if1 .left
 
 returns-2 : tie.Need-returns-2
 returns-2 c =
-    let start = c .before .before .before .before in
-    take-unknown (now (start .args .log)) (start .args .at) (c .before .before .if1 .left) (λ above. omega arith)
+    let left = c .before in
+    take-unknown (log left) (at left) (below left) (λ above. omega arith)
 
 returns-3 : tie.Need-returns-3
 returns-3 c =
-    let start = c .before .before .before .before .before in
-    take-unknown (now (start .args .log)) (start .args .at) (c .before .before .before .if1 .left) (λ above. omega arith)
+    let left = c .before .before in
+    take-unknown (log left) (at left) (below left) (λ above. omega arith)
+
+-- which is a kind
+module _ (c : tie.After-length-of) where
+  abbrev left : tie.After-shared-slice-known2
+  left = c .before .before .before
+
+  abbrev size : ℕ
+  size = c .length-of .result
+
+  of-kind : size ≡ lengthOf (kind left)
+  of-kind = c .length-of .ensures
+
+  has : 1 ≤ lengthOf (kind left)
+  has = length-some _ (c .before .before .if2 .left) (c .before .if3 .left)
 
 returns-4 : tie.Need-returns-4
 returns-4 c =
-    let start = c .before .before .before .before .before .before .before in
-    let has = length-some _ (c .before .before .before .if2 .left) (c .before .before .if3 .left) in
-    let below = c .before .before .before .before .before .if1 .left in
-    take-short (now (start .args .log)) (start .args .at) below _ (c .before .length-of .ensures) has (c .if4 .taken)
+    let sized = c .before in
+    let from = left sized in
+    take-short (log from) (at from) (below from) (size sized) (of-kind sized) (has sized) (c .if4 .taken)
 
 returns-5 : tie.Need-returns-5
 returns-5 c =
-    let start = c .before .before .before .before .before .before .before .before .before in
-    let log = now (start .args .log) in
-    let at = start .args .at in
-    let below = c .before .before .before .before .before .before .before .if1 .left in
-    let has = length-some _ (c .before .before .before .before .before .if2 .left) (c .before .before .before .before .if3 .left) in
-    let kind = c .before .before .before .length-of .ensures in
-    let fits = c .before .before .if4 .left in
-    take-whole log at below _ kind has fits _
-    (c .fields-of .ensures ∙ part-reads log at below _ kind has fits _ (part-is log at _) ∙ ap reading (part-is log at _))
+    let whole = c .before .before in
+    let fits = whole .if4 .left in
+    let sized = whole .before in
+    let from = left sized in
+    let lent = part-is (log from) (at from) (size sized) in
+    take-whole (log from) (at from) (below from) (size sized) (of-kind sized) (has sized) fits _
+    (c .fields-of .ensures
+    ∙ part-reads (log from) (at from) (below from) (size sized) (of-kind sized) (has sized) fits _ lent
+    ∙ ap reading lent)
 
 pub take-one-spec : {M : Type 1} → statement M
 take-one-spec =

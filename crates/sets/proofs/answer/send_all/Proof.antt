@@ -3,13 +3,14 @@ use mathlib.Core.Path.{_≡_, sym, ap, _∙_}
 use mathlib.Core.List.{_++_, append-nil}
 use Prim.Native.Nat.{_-_, _≤_, _<_}
 use native.Mathlib.Omega.{arith}
-use lib.ListN.{length, length-map, take}
+use lib.ListN.{length, take}
 use Rattle.unit.specs.Forms.{listed}
 use Rattle.sets.specs.Members.{membersOf}
 use Rattle.sets.specs.SetSteps.{sentAll}
 use Rattle.sets.specs.Holding.{sentSoFar}
 use Rattle.sets.specs.declared.members.Members.{Members}
 use Rattle.sets.proofs.SentLaws.{SentStep, sent-step}
+use Rattle.sets.proofs.FourItems.{four-items}
 use Rattle.sets.proofs.answer.send_all.Statement.{statement}
 use Rattle.sets.proofs.answer.send_all.Tie as tie
 
@@ -35,7 +36,7 @@ module _ (c : tie.In-loop Inv-loop μ-loop) where
   members = start .args .t2
 
   four : length (members .items) ≡ 4
-  four = sym (length-map (members .items) _) ∙ start .good .1 .0 .1 .1 .0 .1 .0 .1
+  four = four-items members (start .good .1 .0)
 
   under : at .loop .i < 4
   under = omega (arith, start .pre .1)

@@ -3,7 +3,7 @@ use borrow.Author.Needs.{needs}
 use mathlib.Core.Path.{_≡_, sym, ap, ap₂, _∙_}
 use mathlib.Core.Bool.{Bool, true, false, _&&_, not}
 use Rattle.place.specs.Places.{isFree}
-use Rattle.unit.specs.Kept.{once}
+use Rattle.wire.specs.Bytes.{asBit}
 use Rattle.shunter.specs.Queues.{waiting, hasModem}
 use Rattle.shunter.proofs.state.modem_at.Statement.{statement}
 use Rattle.shunter.proofs.state.modem_at.Tie as tie
@@ -15,12 +15,12 @@ module _ (c : tie.After-and) where
 
   by : (b : Bool)
       → c .and .result ≡ b
-      → once b ≡ once (hasModem (start .args .state .places) (waiting (start .args .queue)) (start .args .at))
+      → asBit b ≡ asBit (hasModem (start .args .state .places) (waiting (start .args .queue)) (start .args .at))
   by b shown =
       let sought = c .before .before .before .before in
       let free = sought .is-free .ensures ∙ ap isFree (sought .before .place-at .ensures) in
       let queued = c .before .before .has .ensures in
-      ap once
+      ap asBit
       (sym shown
       ∙ c .and .ensures
       ∙ ap₂ _&&_ (c .before .before .before .negated .ensures ∙ ap not free) (c .before .negated2 .ensures ∙ ap not queued))

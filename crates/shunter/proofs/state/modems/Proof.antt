@@ -4,7 +4,7 @@ use Prim.Native.Nat.{ℕ, _≤_}
 use mathlib.Core.Path.{_≡_}
 use mathlib.Core.Bool.{Bool}
 use native.Mathlib.Omega.{arith}
-use Rattle.unit.specs.Kept.{once}
+use Rattle.wire.specs.Bytes.{asBit}
 use Rattle.unit.proofs.Few.{once-few}
 use Rattle.shunter.specs.Queues.{waiting, hasModem, sumTo, modemsHeld}
 use Rattle.shunter.proofs.state.modems.Statement.{statement}
@@ -15,7 +15,7 @@ module _ (c : tie.Start) where
   abbrev test : ℕ → Bool
   test = hasModem (c .args .state .places) (waiting (c .args .queue))
 
-  one : (at n : ℕ) → n ≡ once (test at) → n ≤ 1
+  one : (at n : ℕ) → n ≡ asBit (test at) → n ≤ 1
   one at n is =
       let small = once-few (test at) in
       omega arith

@@ -4,9 +4,10 @@ use Prim.Native.Nat.{ℕ, _≤_}
 use mathlib.Core.List.{List}
 use mathlib.Core.Path.{_≡_, sym, ap, _∙_}
 use native.Mathlib.Omega.{arith}
-use lib.ListN.{getD, length, length-map, List·getD-eq-default}
+use lib.ListN.{getD, length, List·getD-eq-default}
 use Rattle.place.specs.Places.{vacant}
 use Rattle.place.specs.declared.place.Place.{Place}
+use Rattle.unit.proofs.FourPlaces.{four-places}
 use Rattle.shunter.proofs.state.place_at.Statement.{statement}
 use Rattle.shunter.proofs.state.place_at.Tie as tie
 
@@ -19,7 +20,7 @@ module _ (c : tie.Start) where
   by-number told = ap (λ k. getD ps k vacant) (sym told)
 
   four : length ps ≡ 4
-  four = sym (length-map ps _) ∙ c .good .0 .1 .1 .1 .1 .1 .0 .1 .0 .1
+  four = four-places (c .args .t1) (c .good .0)
 
 returns : tie.Need-returns
 returns c = by-number (c .before .before) (c .before .match .keys1)

@@ -7,7 +7,7 @@ use Prim.Native.Nat.{ℕ, _+_, _-_, _≤_, _<_}
 use native.Mathlib.Omega.{arith}
 use denote.Ref.{now}
 use lib.ListN.{length, drop, length-drop, drop-of-length-le, set}
-use Rattle.record.specs.Records.{readingOk}
+use Rattle.record.specs.Ranges.{readingOk}
 use Rattle.record.specs.Takes.{longestLog, takeOne}
 use Rattle.record.specs.declared.take.Taken.the-variants.{Whole}
 use Rattle.record.specs.declared.event.Reading.{Reading}
@@ -26,7 +26,7 @@ use Rattle.unit.proofs.Runs.Tallies.{below-more, bounded-fresh, counted
 use Rattle.unit.proofs.Runs.Applied.{refusal-numbered, applied-kept, applied-set, applied-noted}
 use Rattle.unit.proofs.Runs.Takes.{go-end, go-budget, go-stop, go-refused}
 use Rattle.record.proofs.Takes.{taken-short}
-use Rattle.unit.proofs.Runs.Going.{whole-ready, run-again}
+use Rattle.unit.proofs.Runs.Going.{whole-ready, run-on}
 use Rattle.unit.proofs.run.go.Statement.{statement}
 use Rattle.unit.proofs.run.go.Tie as tie
 
@@ -140,7 +140,7 @@ module _ (c : tie.After-known-told3 Inv-loop μ-loop) where
       × (go (budget here) (tallyOf (here .before .before .fresh .result) (start here .args .state .places)) (log here)
       ≡ go (budget here - u .read) u (drop (u .offset) (log here)))
   again u applied =
-      run-again (log here) t k r (under (took .before .before)) (start here .pre .0) whole
+      run-on (log here) t k r (under (took .before .before)) (start here .pre .0) whole
       (here .loop .inv .2) u applied (budget here) _ (here .loop .inv .1) (here .loop .inv .3) (more took) (here .loop .inv .4)
 
   refusing : (t .offset + k ≤ longestLog) × (t .read ≤ t .offset) × (t .refused ≤ t .read)
@@ -349,10 +349,21 @@ returns-4 c =
 pub go-spec : {M : Type 1} → statement M
 go-spec =
     tie.close
-    (tie.spec Inv-loop μ-loop (λ c κs. search needs) loop-holds (λ c κs. search needs) (λ c κs. search needs)
-    (λ c κs. search needs) (λ c κs. search needs) (λ c. search needs) (λ c κs. search needs) (λ c. search needs)
-    (λ c κs. search needs) (λ c. search needs) (λ c. search needs) refuse-requires loop-less loop-again
+    (tie.spec Inv-loop μ-loop
+    -- the run begins, and what is left of the log and of the budget
+    (λ c κs. search needs) loop-holds (λ c κs. search needs) (λ c κs. search needs) (λ c κs. search needs)
+    -- the front of the log: a stop, a refusal, a record
+    (λ c κs. search needs)
+    (λ c. search needs) (λ c κs. search needs) (λ c. search needs) (λ c κs. search needs) (λ c. search needs)
+    -- what means no event
+    (λ c. search needs) refuse-requires loop-less loop-again
+    -- an event that is refused
     (λ c. search needs) (λ c κs. search needs) (λ c κs. search needs) refuse-requires-2 loop-less-2 loop-again-2
+    -- one that is made, with closings
     (λ c κs. search needs) sweep-requires accept-requires (λ c κs. search needs) loop-less-3 loop-again-3
-    accept-requires-2 (λ c. search needs) (λ c. search needs) loop-less-4 loop-again-4 accept-requires-3 loop-less-5
-    loop-again-5 returns returns-2 returns-3 returns-4)
+    -- with a place set
+    accept-requires-2 (λ c. search needs) (λ c. search needs) loop-less-4 loop-again-4
+    -- with neither
+    accept-requires-3 loop-less-5 loop-again-5
+    -- where it stops
+    returns returns-2 returns-3 returns-4)

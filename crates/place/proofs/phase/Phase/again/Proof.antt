@@ -6,15 +6,17 @@ use Rattle.place.proofs.phase.Phase.again.Tie as tie
 
 returns : tie.Need-returns
 returns c =
-    let start = c .before .before .before .before in
-    let used = c .before .before .before .tries in
-    again-more (start .args .limits) (start .args .number) (start .args .self) _ (used .ensures) _ (c .before .if1 .taken)
+    let under = c .before in
+    let used = under .before .before in
+    let start = used .before in
+    again-more (start .args .limits) (start .args .number) (start .args .self) _ (used .tries .ensures) _ (under .if1 .taken)
     (c .with-tries .ensures)
 
 returns-2 : tie.Need-returns-2
 returns-2 c =
-    let start = c .before .before .before in
-    again-last (start .args .limits) (start .args .number) (start .args .self) _ (c .before .before .tries .ensures) (c .if1 .left)
+    let used = c .before .before in
+    let start = used .before in
+    again-last (start .args .limits) (start .args .number) (start .args .self) _ (used .tries .ensures) (c .if1 .left)
 
 pub again-spec : {M : Type 1} → statement M
 again-spec =

@@ -10,10 +10,11 @@ use Rattle.record.proofs.partner.Partner.is_reserved.Tie as tie
 
 returns : tie.Need-returns
 returns c =
-    let start = c .before .before .before .before .before in
-    let p = start .args .self in
+    let asked = c .before .before in
+    let full = asked .before in
+    let p = full .before .before .args .self in
     c .and .ensures
-    ∙ ap₂ _&&_ (c .before .before .is-rbc .ensures) (nid-all (p .middle % 64) (p .low) (c .before .before .before .if1 .taken))
+    ∙ ap₂ _&&_ (asked .is-rbc .ensures) (nid-all (p .middle % 64) (p .low) (full .if1 .taken))
 
 returns-2 : tie.Need-returns-2
 returns-2 c =

@@ -6,7 +6,7 @@ use mathlib.Core.Logic.{⊎-elim}
 use mathlib.Core.Bool.{Bool}
 use mathlib.Core.List.{List}
 use native.Mathlib.Omega.{arith}
-use lib.ListN.{length, length-map, take}
+use lib.ListN.{length, take}
 use lib.Seq.{length-take-le}
 use Rattle.sets.specs.Members.{mostMembers, those, membersOf, setOf}
 use Rattle.sets.specs.Holding.{chosen}
@@ -14,6 +14,7 @@ use Rattle.sets.specs.declared.members.Member.{Member}
 use Rattle.sets.specs.declared.members.Members.{Members}
 use Rattle.sets.proofs.MemberLaws.{those-few}
 use Rattle.sets.proofs.MemberLoops.{held-length, held-next, held-all, grown-room, grown, those-next, those-left}
+use Rattle.sets.proofs.FourItems.{four-items}
 use Rattle.sets.proofs.members.Members.chosen.Statement.{statement}
 use Rattle.sets.proofs.members.Members.chosen.Tie as tie
 
@@ -25,9 +26,7 @@ abbrev μ-loop : tie.MeasureT-loop
 μ-loop going which name self count kept₀ i₀ kept i = self .count - i
 
 four : (c : tie.Start Inv-loop μ-loop) → length (c .args .t1 .items) ≡ mostMembers
-four c =
-    let self = c .args .t1 in
-    sym (length-map (self .items) _) ∙ c .good .0 .1 .1 .0 .1 .0 .1
+four c = four-items (c .args .t1) (c .good .0)
 
 loop-holds : tie.Need-loop-holds Inv-loop μ-loop
 unfolding those

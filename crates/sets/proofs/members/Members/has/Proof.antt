@@ -3,17 +3,16 @@ use borrow.Author.Needs.{needs}
 use mathlib.Core.Path.{_≡_, sym, ap₂, _∙_}
 use native.Mathlib.Omega.{arith}
 use lib.Dec.{ltb}
-use lib.ListN.{length, length-map}
+use lib.ListN.{length}
 use Rattle.sets.specs.Members.{mostMembers, membersOf}
 use Rattle.sets.proofs.MemberLaws.{within-first}
 use Rattle.sets.proofs.MemberLoops.{held-length}
+use Rattle.sets.proofs.FourItems.{four-items}
 use Rattle.sets.proofs.members.Members.has.Statement.{statement}
 use Rattle.sets.proofs.members.Members.has.Tie as tie
 
 four : (c : tie.Start) → length (c .args .self .items) ≡ mostMembers
-four c =
-    let self = c .args .self in
-    sym (length-map (self .items) _) ∙ c .good .0 .1 .1 .0 .1 .0 .1
+four c = four-items (c .args .self) (c .good .0)
 
 returns : tie.Need-returns
 returns c =

@@ -7,13 +7,14 @@ use mathlib.Core.List.{_∷_}
 use native.Mathlib.Numerals.{add-one}
 use native.Mathlib.Omega.{arith}
 use borrow.Author.Tests.{le-leb, lt-leb}
-use lib.ListN.{length, length-map, getD, drop, drop-of-length-le}
+use lib.ListN.{length, getD, drop, drop-of-length-le}
 use lib.Seq.{drop-cons}
 use Rattle.sets.specs.Members.{mostMembers, noMember, allOf, isNoMember, tidy}
 use Rattle.sets.specs.declared.members.Member.{Member}
 use Rattle.sets.specs.declared.members.Members.{Members}
 use Rattle.sets.proofs.MemberLaws.{all-here, all-not}
 use Rattle.sets.proofs.MemberLoops.{tidy-by}
+use Rattle.sets.proofs.FourItems.{four-items}
 use Rattle.sets.proofs.members.Members.is_tidy.Statement.{statement}
 use Rattle.sets.proofs.members.Members.is_tidy.Tie as tie
 
@@ -25,9 +26,7 @@ abbrev μ-loop : tie.MeasureT-loop
 μ-loop self i₀ i = mostMembers - i
 
 four : (c : tie.Start Inv-loop μ-loop) → length (c .args .t1 .items) ≡ mostMembers
-four c =
-    let self = c .args .t1 in
-    sym (length-map (self .items) _) ∙ c .good .0 .1 .1 .0 .1 .0 .1
+four c = four-items (c .args .t1) (c .good .0)
 
 returns : tie.Need-returns Inv-loop μ-loop
 returns c =

@@ -4,19 +4,18 @@ use mathlib.Core.Path.{_≡_, sym, ap, _∙_}
 use Prim.Native.Nat.{_≤_}
 use mathlib.Core.List.{List}
 use native.Mathlib.Omega.{arith}
-use lib.ListN.{length, length-map, getD, List·getD-eq-default}
+use lib.ListN.{length, getD, List·getD-eq-default}
 use Rattle.record.specs.declared.partner.Partner.{Partner}
 use Rattle.sets.specs.Members.{mostMembers, noMember, memberFor, membersOf}
 use Rattle.sets.specs.declared.members.Member.{Member}
 use Rattle.sets.proofs.MemberLaws.{member-first}
 use Rattle.sets.proofs.MemberLoops.{held-length, held-member}
+use Rattle.sets.proofs.FourItems.{four-items}
 use Rattle.sets.proofs.members.Members.member.Statement.{statement}
 use Rattle.sets.proofs.members.Members.member.Tie as tie
 
 four : (c : tie.Start) → length (c .args .t1 .items) ≡ mostMembers
-four c =
-    let self = c .args .t1 in
-    sym (length-map (self .items) _) ∙ c .good .0 .1 .1 .0 .1 .0 .1
+four c = four-items (c .args .t1) (c .good .0)
 
 -- where the partner was looked for
 module _ (c : tie.After-position) where

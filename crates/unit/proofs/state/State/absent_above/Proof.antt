@@ -3,17 +3,16 @@ use borrow.Author.Needs.{needs}
 use mathlib.Core.Path.{_≡_, sym, ap, _∙_}
 use native.Mathlib.Omega.{arith}
 use lib.Dec.{leb}
-use lib.ListN.{length, length-map, drop}
+use lib.ListN.{length, drop}
 use Prim.Native.Nat.{_+_}
 use Rattle.unit.specs.States.{absentFrom}
 use Rattle.unit.proofs.Tested.{absent-by}
+use Rattle.unit.proofs.FourPlaces.{four-places}
 use Rattle.unit.proofs.state.State.absent_above.Statement.{statement}
 use Rattle.unit.proofs.state.State.absent_above.Tie as tie
 
 four : (c : tie.Start) → length (c .args .t1 .places) ≡ 4
-four c =
-    let self = c .args .t1 in
-    sym (length-map (self .places) _) ∙ c .good .0 .1 .1 .1 .1 .1 .0 .1 .0 .1
+four c = four-places (c .args .t1) (c .good .0)
 
 returns : tie.Need-returns
 returns c =

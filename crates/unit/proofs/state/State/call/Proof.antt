@@ -4,7 +4,8 @@ use mathlib.Core.Path.{_≡_, refl, sym, ap, _∙_}
 use mathlib.Core.Bool.{true, false}
 use mathlib.Core.List.{[], _∷_}
 use Rattle.place.specs.Table.{established}
-use Rattle.unit.specs.Steps.{act, admitted, calledAt, setAt, step}
+use Rattle.unit.specs.Steps.{act, calledAt, setAt, step}
+use Rattle.unit.specs.Searching.{admitted}
 use Rattle.unit.specs.Changes.{given}
 use Rattle.unit.proofs.Rules.{call-is}
 use Rattle.record.specs.Partners.{isRbc}

@@ -1,16 +1,15 @@
 -- Every place is due.
 use borrow.Author.Needs.{needs}
-use mathlib.Core.Path.{_≡_, sym, ap, _∙_}
-use lib.ListN.{length, length-map}
+use mathlib.Core.Path.{_≡_, ap, _∙_}
+use lib.ListN.{length}
 use Rattle.unit.specs.Changes.{carried}
 use Rattle.unit.proofs.Settling.{carried-noted}
+use Rattle.unit.proofs.FourPlaces.{four-places}
 use Rattle.unit.proofs.state.State.close_all.Statement.{statement}
 use Rattle.unit.proofs.state.State.close_all.Tie as tie
 
 four : (c : tie.Start) → length (c .args .self .places) ≡ 4
-four c =
-    let self = c .args .self in
-    sym (length-map (self .places) _) ∙ c .good .0 .1 .1 .1 .1 .1 .0 .1 .0 .1
+four c = four-places (c .args .self) (c .good .0)
 
 returns : tie.Need-returns
 returns c =

@@ -1,13 +1,14 @@
 -- The places passed are closed where they were due, and their actions stand in the list.
 use borrow.Author.Needs.{needs}
-use mathlib.Core.Path.{_≡_, refl, sym, ap, _∙_}
+use mathlib.Core.Path.{_≡_, refl, ap, _∙_}
 use mathlib.Core.List.{_++_}
 use Prim.Native.Nat.{_-_, _≤_, _<_}
 use native.Mathlib.Omega.{arith}
-use lib.ListN.{length, length-map, take, drop}
+use lib.ListN.{length, take, drop}
 use Rattle.unit.specs.Steps.{done, closed, closingActions, withPlaces}
 use Rattle.unit.specs.Forms.{listed, packed}
 use Rattle.unit.proofs.Closings.{closings-places, closings-actions, closings-all, sent-all}
+use Rattle.unit.proofs.FourPlaces.{four-places}
 use Rattle.unit.proofs.state.State.close_places.Statement.{statement}
 use Rattle.unit.proofs.state.State.close_places.Tie as tie
 
@@ -21,9 +22,7 @@ abbrev μ-loop : tie.MeasureT-loop
 μ-loop self which places₀ actions₀ i₀ places actions i = 4 - i
 
 four : (c : tie.Start Inv-loop μ-loop) → length (c .args .self .places) ≡ 4
-four c =
-    let self = c .args .self in
-    sym (length-map (self .places) _) ∙ c .good .0 .1 .1 .1 .1 .1 .0 .1 .0 .1
+four c = four-places (c .args .self) (c .good .0)
 
 loop-holds : tie.Need-loop-holds Inv-loop μ-loop
 unfolding closed closingActions

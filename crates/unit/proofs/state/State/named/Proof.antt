@@ -2,20 +2,20 @@
 use borrow.Author.Needs.{needs}
 use mathlib.Core.Path.{_≡_, sym, _∙_}
 use native.Mathlib.Omega.{arith}
-use lib.ListN.{length, length-map}
+use lib.ListN.{length}
 use Rattle.record.specs.declared.event.Event.the-variants.{Named}
 use Rattle.unit.specs.States.{seek}
-use Rattle.unit.specs.Steps.{namedAt, step}
+use Rattle.unit.specs.Steps.{step}
+use Rattle.unit.specs.Searching.{namedAt}
 use Rattle.unit.proofs.Searches.{found-ok}
 use Rattle.unit.proofs.Rules.{named-is}
 use Rattle.unit.specs.declared.search.Found.{Found}
+use Rattle.unit.proofs.FourPlaces.{four-places}
 use Rattle.unit.proofs.state.State.named.Statement.{statement}
 use Rattle.unit.proofs.state.State.named.Tie as tie
 
 four : (c : tie.Start) → length (c .args .self .places) ≡ 4
-four c =
-    let self = c .args .self in
-    sym (length-map (self .places) _) ∙ c .good .0 .1 .1 .1 .1 .1 .0 .1 .0 .1
+four c = four-places (c .args .self) (c .good .0)
 
 -- where the partner was looked for
 module _ (c : tie.After-seek) where

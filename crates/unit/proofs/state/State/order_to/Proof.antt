@@ -3,7 +3,8 @@ use borrow.Author.Needs.{needs}
 use mathlib.Core.Path.{_≡_, refl, sym, ap₂, _∙_}
 use mathlib.Core.Bool.{true, false}
 use Rattle.record.specs.Partners.{reserved}
-use Rattle.unit.specs.Steps.{withMarks, closePlaces, takenIn, admitted, orderedAt, orderedTo}
+use Rattle.unit.specs.Steps.{withMarks, closePlaces, takenIn, orderedAt}
+use Rattle.unit.specs.Searching.{admitted, orderedTo}
 use Rattle.unit.proofs.Rules.{ordered-is}
 use Rattle.unit.specs.declared.search.Found.{Found}
 use Rattle.unit.proofs.state.State.order_to.Statement.{statement}

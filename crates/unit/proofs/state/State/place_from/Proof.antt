@@ -5,10 +5,11 @@ use mathlib.Core.Path.{_≡_, refl, sym, _∙_}
 use mathlib.Core.Bool.{Bool, true, false}
 use mathlib.Core.List.{List}
 use native.Mathlib.Omega.{arith}
-use lib.ListN.{length, length-map, getD}
+use lib.ListN.{length, getD}
 use Rattle.place.specs.Places.{vacant, holds}
 use Rattle.unit.proofs.Searches.{SearchedTo, searched-more, searched-found, searched-none}
 use Rattle.place.specs.declared.place.Place.{Place}
+use Rattle.unit.proofs.FourPlaces.{four-places}
 use Rattle.unit.proofs.state.State.place_from.Statement.{statement}
 use Rattle.unit.proofs.state.State.place_from.Tie as tie
 
@@ -19,9 +20,7 @@ abbrev μ-loop : tie.MeasureT-loop
 μ-loop partner from self i₀ i = 4 - i
 
 four : (c : tie.Start Inv-loop μ-loop) → length (c .args .t1 .places) ≡ 4
-four c =
-    let self = c .args .t1 in
-    sym (length-map (self .places) _) ∙ c .good .0 .1 .1 .1 .1 .1 .0 .1 .0 .1
+four c = four-places (c .args .t1) (c .good .0)
 
 loop-holds : tie.Need-loop-holds Inv-loop μ-loop
 loop-holds c = (c .pre, refl)

@@ -4,11 +4,12 @@ use mathlib.Core.Path.{_≡_, refl, sym, _∙_}
 use Prim.Native.Nat.{_-_, _≤_, _<_}
 use mathlib.Core.Bool.{Bool, true, false}
 use native.Mathlib.Omega.{arith}
-use lib.ListN.{length, length-map, getD, drop}
+use lib.ListN.{length, getD, drop}
 use Rattle.place.specs.Places.{vacant, placeOk}
 use Rattle.unit.specs.States.{placesOk}
 use Rattle.unit.proofs.Tested.{ok-end, ok-more, ok-bad, ok-twice}
 use Rattle.unit.specs.declared.state.State.{State}
+use Rattle.unit.proofs.FourPlaces.{four-places}
 use Rattle.unit.proofs.state.State.places_ok.Statement.{statement}
 use Rattle.unit.proofs.state.State.places_ok.Tie as tie
 
@@ -19,9 +20,7 @@ abbrev μ-loop : tie.MeasureT-loop
 μ-loop self i₀ i = 4 - i
 
 four : (c : tie.Start Inv-loop μ-loop) → length (c .args .t1 .places) ≡ 4
-four c =
-    let self = c .args .t1 in
-    sym (length-map (self .places) _) ∙ c .good .0 .1 .1 .1 .1 .1 .0 .1 .0 .1
+four c = four-places (c .args .t1) (c .good .0)
 
 loop-holds : tie.Need-loop-holds Inv-loop μ-loop
 loop-holds c = (omega arith, refl)

@@ -1,17 +1,16 @@
 -- The partner is looked for first, then a free place.
 use borrow.Author.Needs.{needs}
-use mathlib.Core.Path.{_≡_, sym, ap, _∙_}
+use mathlib.Core.Path.{_≡_, ap, _∙_}
 use native.Mathlib.Omega.{arith}
-use lib.ListN.{length, length-map}
+use lib.ListN.{length}
 use Rattle.place.specs.Places.{heldPhase}
 use Rattle.unit.proofs.Searches.{seek-at, seek-vacant, seek-full}
+use Rattle.unit.proofs.FourPlaces.{four-places}
 use Rattle.unit.proofs.state.State.seek.Statement.{statement}
 use Rattle.unit.proofs.state.State.seek.Tie as tie
 
 four : (c : tie.Start) → length (c .args .self .places) ≡ 4
-four c =
-    let self = c .args .self in
-    sym (length-map (self .places) _) ∙ c .good .0 .1 .1 .1 .1 .1 .0 .1 .0 .1
+four c = four-places (c .args .self) (c .good .0)
 
 returns : tie.Need-returns
 returns c =

@@ -2,20 +2,19 @@
 use borrow.Author.Needs.{needs}
 use mathlib.Core.Path.{_≡_, sym, ap, _∙_}
 use native.Mathlib.Omega.{arith}
-use lib.ListN.{length, length-map}
+use lib.ListN.{length}
 use Rattle.wire.specs.Refusals.{accepted}
 use Rattle.unit.specs.declared.change.Change.{Change}
 use Rattle.unit.specs.Steps.{step}
 use Rattle.unit.specs.Changes.{made}
 use Rattle.unit.specs.Forms.{packed}
 use Rattle.unit.proofs.Settling.{carried-refused, carried-made, made-few}
+use Rattle.unit.proofs.FourPlaces.{four-places}
 use Rattle.unit.proofs.state.State.step.Statement.{statement}
 use Rattle.unit.proofs.state.State.step.Tie as tie
 
 four : (c : tie.Start) → length (c .args .self .places) ≡ 4
-four c =
-    let self = c .args .self in
-    sym (length-map (self .places) _) ∙ c .good .0 .1 .1 .1 .1 .1 .0 .1 .0 .1
+four c = four-places (c .args .self) (c .good .0)
 
 -- what the event changes
 module _ (c : tie.After-change) where

@@ -4,7 +4,7 @@ use mathlib.Core.Path.{_≡_, refl, sym, ap, _∙_}
 use mathlib.Core.List.{_++_, map}
 use Prim.Native.Nat.{_+_, _-_, _≤_, _<_}
 use native.Mathlib.Omega.{arith}
-use lib.ListN.{length, length-map, getD, take, drop}
+use lib.ListN.{length, getD, take, drop}
 use Rattle.place.specs.Places.{vacant, partnerOf}
 use Rattle.place.specs.Table.{numbers}
 use Rattle.unit.specs.Steps.{act, closed, closingActions}
@@ -13,6 +13,7 @@ use Rattle.unit.specs.Runs.{totalled}
 use Rattle.unit.specs.Counting.{mostTotal, Below}
 use Rattle.unit.proofs.Closings.{closings-most, closings-places, closings-next, closings-all, actions-all}
 use Rattle.unit.proofs.Runs.Tallies.{totalled-none, totalled-append, totalled-below, below-more}
+use Rattle.unit.proofs.FourPlaces.{four-places}
 use Rattle.unit.proofs.state.State.sweep.Statement.{statement}
 use Rattle.unit.proofs.state.State.sweep.Tie as tie
 
@@ -26,9 +27,7 @@ abbrev μ-loop : tie.MeasureT-loop
 μ-loop which places₀ totals₀ i₀ places totals i = 4 - i
 
 four : (c : tie.Start Inv-loop μ-loop) → length (c .args .self .places) ≡ 4
-four c =
-    let self = c .args .self in
-    sym (length-map (self .places) _) ∙ c .good .0 .1 .1 .1 .1 .1 .0 .1 .0 .1
+four c = four-places (c .args .self) (c .good .0)
 
 loop-holds : tie.Need-loop-holds Inv-loop μ-loop
 unfolding closed closingActions

@@ -1,42 +1,72 @@
 -- With closings or without.
 use borrow.Author.Needs.{needs}
 use mathlib.Core.Path.{sym, _∙_}
+use mathlib.Core.List.{List}
+use Prim.Native.Nat.{ℕ}
 use native.Mathlib.Omega.{arith}
 use denote.Ref.{now}
+use Rattle.unit.specs.declared.change.Change.{Change}
+use Rattle.unit.specs.declared.state.State.{State}
 use Rattle.unit.proofs.Settling.{made-length, unclosed, written-made}
 use Rattle.unit.proofs.state.State.write_change.Statement.{statement}
 use Rattle.unit.proofs.state.State.write_change.Tie as tie
 
+-- where it is known whether a place closes
+module _ (c : tie.After-closes-any) where
+  abbrev start : tie.Start
+  start = c .before .before
+
+  abbrev self : State
+  self = start .args .self
+
+  abbrev change : Change
+  change = start .args .change
+
+  abbrev buffer : List ℕ
+  buffer = now (start .args .s)
+
+-- where some closed, and their actions are written
+module _ (c : tie.After-closed) where
+  abbrev shut : tie.After-write-closings
+  shut = c .before .before .before
+
+  abbrev some : tie.After-closes-any
+  some = shut .before .before .before
+
 write-sent-requires : tie.Need-write-sent-requires
 write-sent-requires c κs =
-    let start = c .before .before .before .before .before .before .before .before .before in
-    let shut = c .before .before .before .before .write-closings in (
-      omega (arith, start .pre .0, made-length (start .args .self) (start .args .change), shut .ensures .1),
-      omega (arith, start .pre .1, shut .kept .1 .1 .0),
+    let closed = c .before in
+    let given = start (some closed) .pre in
+    let wrote = shut closed .write-closings in (
+      omega (arith, given .0, made-length (self (some closed)) (change (some closed)), wrote .ensures .1),
+      omega (arith, given .1, wrote .kept .1 .1 .0),
     )
 
 returns : tie.Need-returns
 returns c =
-    let start = c .before .before .before .before .before .before .before .before .before .before .before .before in
-    let shut = c .before .before .before .before .before .before .before .write-closings .ensures in
-    written-made (start .args .self) (start .args .change) _ _ _ (now (start .args .s)) _ _ (shut .0) (shut .1) (shut .2)
-    (c .before .before .write-sent .ensures)
+    let sent = c .before .before in
+    let closed = sent .before .before in
+    let asked = some closed in
+    let wrote = shut closed .write-closings .ensures in
+    written-made (self asked) (change asked) _ _ _ (buffer asked) _ _ (wrote .0) (wrote .1) (wrote .2) (sent .write-sent .ensures)
 
 write-sent-requires-2 : tie.Need-write-sent-requires-2
 write-sent-requires-2 c κs =
-    let start = c .before .before .before .before in
-    (omega (arith, start .pre .0, made-length (start .args .self) (start .args .change)), start .pre .1)
+    let asked = c .before .before in
+    let given = start asked .pre in
+    (omega (arith, given .0, made-length (self asked) (change asked)), given .1)
 
 returns-2 : tie.Need-returns-2
 returns-2 c =
-    let start = c .before .before .before .before .before .before .before in
-    let none = sym (c .before .before .before .before .before .closes-any .ensures) ∙ c .before .before .before .before .if1 .left in
-    let same = unclosed (start .args .self) (start .args .change) (now (start .args .s)) none in
-    written-made (start .args .self) (start .args .change) _ _ _ (now (start .args .s)) _ _ (same .0) (same .1) (same .2)
-    (c .before .before .write-sent2 .ensures)
+    let sent = c .before .before in
+    let none = sent .before .before in
+    let asked = none .before in
+    let same = unclosed (self asked) (change asked) (buffer asked) (sym (asked .closes-any .ensures) ∙ none .if1 .left) in
+    written-made (self asked) (change asked) _ _ _ (buffer asked) _ _ (same .0) (same .1) (same .2) (sent .write-sent2 .ensures)
 
 pub write-change-spec : {M : Type 1} → statement M
 write-change-spec =
     tie.close
-    (tie.spec (λ c κs. search needs) (λ c κs. c .before .before .before .before .pre .1) write-sent-requires
-    (λ c. search needs) returns write-sent-requires-2 (λ c. search needs) returns-2)
+    (tie.spec (λ c κs. search needs) (λ c κs. start (c .before .before) .pre .1)
+    write-sent-requires (λ c. search needs) returns
+    write-sent-requires-2 (λ c. search needs) returns-2)

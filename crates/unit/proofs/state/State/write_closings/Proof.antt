@@ -1,6 +1,6 @@
 -- The places passed are closed where they were due, and their actions stand in the buffer.
 use borrow.Author.Needs.{needs}
-use mathlib.Core.Path.{_≡_, refl, sym, ap, _∙_}
+use mathlib.Core.Path.{_≡_, refl, ap, _∙_}
 use mathlib.Core.List.{List, _++_, map}
 use Prim.Native.Nat.{ℕ, _+_, _-_, _≤_, _<_}
 use native.Mathlib.Omega.{arith}
@@ -10,9 +10,12 @@ use Rattle.wire.specs.Blocks.{blocks}
 use Rattle.record.specs.declared.partner.Partner.{Partner}
 use Rattle.unit.specs.declared.answer.Action.{Action}
 use Rattle.place.specs.Table.{numbers}
+use Rattle.place.specs.declared.place.Place.{Place}
+use Rattle.place.specs.declared.turn.Closing.{Closing}
 use Rattle.unit.specs.Steps.{act, withPlaces, closed, closingActions}
 use Rattle.unit.specs.OnRecords.{written}
 use Rattle.unit.proofs.Closings.{closings-places, closings-room, closings-next, closings-all, actions-all}
+use Rattle.unit.proofs.FourPlaces.{four-places}
 use Rattle.unit.proofs.state.State.write_closings.Statement.{statement}
 use Rattle.unit.proofs.state.State.write_closings.Tie as tie
 
@@ -26,11 +29,6 @@ Inv-loop self which s₀ places₀ count₀ i₀ s places count i =
 
 abbrev μ-loop : tie.MeasureT-loop
 μ-loop self which s₀ places₀ count₀ i₀ s places count i = 4 - i
-
-four : (c : tie.Start Inv-loop μ-loop) → length (c .args .self .places) ≡ 4
-four c =
-    let self = c .args .self in
-    sym (length-map (self .places) _) ∙ c .good .0 .1 .1 .1 .1 .1 .0 .1 .0 .1
 
 more-length : (acts more : List Action) (p : Partner) (ks : List ℕ) (count next : ℕ)
     → next ≡ count + length ks
@@ -47,50 +45,72 @@ loop-holds : tie.Need-loop-holds Inv-loop μ-loop
 unfolding closed closingActions written blocks
 loop-holds c = (omega arith, refl, refl, refl, refl)
 
+-- the places so far
+module _ (c : tie.At-loop Inv-loop μ-loop) where
+  abbrev start : tie.Start Inv-loop μ-loop
+  start = c .before .before .before
+
+  abbrev which : Closing
+  which = start .args .which
+
+  abbrev ps : List Place
+  ps = start .args .self .places
+
+  abbrev buffer : List ℕ
+  buffer = now (start .args .s)
+
+  four : length ps ≡ 4
+  four = four-places (start .args .self) (start .good .0)
+
+-- one more, what its phase is due, and its partner
+module _ (c : tie.After-partner Inv-loop μ-loop) where
+  abbrev due : tie.After-closed-by Inv-loop μ-loop
+  due = c .before .before
+
+  abbrev here : tie.In-loop Inv-loop μ-loop
+  here = due .before .before
+
+  abbrev turn : tie.At-loop Inv-loop μ-loop
+  turn = here .before
+
+  under : turn .loop .i < length (ps turn)
+  under = omega (arith, four turn, here .loop-test .taken)
+
 put-turn-requires : tie.Need-put-turn-requires Inv-loop μ-loop
 put-turn-requires c κs =
-    let turn = c .before .before .before .before .before in
-    let start = turn .before .before .before in
-    let below = c .before .before .before .before .loop-test .taken in
-    let ps = start .args .self .places in
-    let in-four : turn .loop .i < length ps = omega (arith, four start, below) in
-    let room = closings-room (start .args .which) ps _ in-four _ (turn .loop .inv .2) _ (c .before .before .closed-by .ensures) in (
-      omega (arith, room, turn .loop .inv .3, below),
-      omega (arith, start .pre, turn .loop .inv .1),
+    let at = turn c in
+    let inv = at .loop .inv in
+    let room = closings-room (which at) (ps at) _ (under c) _ (inv .2) _ (due c .closed-by .ensures) in (
+      omega (arith, room, inv .3, here c .loop-test .taken),
+      omega (arith, start at .pre, inv .1),
     )
 
 loop-again : tie.Need-loop-again Inv-loop μ-loop
 loop-again c =
-    let turn = c .before .before .before .before .before .before .before .before .before in
-    let start = turn .before .before .before in
-    let wrote = c .before .before .before in
-    let below = c .before .before .before .before .before .before .before .before .loop-test .taken in
-    let due = c .before .before .before .before .before .before .closed-by in
-    let to = c .before .before .before .before .partner in
-    let which = start .args .which in
-    let ps = start .args .self .places in
-    let in-four : turn .loop .i < length ps = omega (arith, four start, below) in
-    let sent = closings-next which ps (turn .loop .i) in-four _ (turn .loop .inv .2) _ _ (to .ensures) (due .ensures) in
-    let acts = closingActions which (take (turn .loop .i) ps) in
-    let buffer = now (start .args .s) in (
-      omega (arith, below),
-      wrote .put-turn .kept .0 ∙ turn .loop .inv .1,
-      closings-places which ps _ in-four _ (turn .loop .inv .2) _ _ (due .ensures) (c .after .ensures),
-      more-length acts _ (to .result) (numbers (due .result)) _ _ (wrote .put-turn .ensures .0) (turn .loop .inv .3) sent,
-      wrote .put-turn .ensures .1 acts buffer (turn .loop .inv .3) (turn .loop .inv .4) ∙ ap (λ l. written l buffer) sent,
+    let known = c .before in
+    let wrote = known .before .before in
+    let to = wrote .before in
+    let at = turn to in
+    let inv = at .loop .inv in
+    let closes = due to .closed-by in
+    let sent = closings-next (which at) (ps at) (at .loop .i) (under to) _ (inv .2) _ _ (to .partner .ensures) (closes .ensures) in
+    let acts = closingActions (which at) (take (at .loop .i) (ps at)) in (
+      omega (arith, here to .loop-test .taken),
+      wrote .put-turn .kept .0 ∙ inv .1,
+      closings-places (which at) (ps at) _ (under to) _ (inv .2) _ _ (closes .ensures) (c .after .ensures),
+      more-length acts _ (to .partner .result) (numbers (closes .result)) _ _ (wrote .put-turn .ensures .0) (inv .3) sent,
+      wrote .put-turn .ensures .1 acts (buffer at) (inv .3) (inv .4) ∙ ap (λ l. written l (buffer at)) sent,
     )
 
 returns : tie.Need-returns Inv-loop μ-loop
 returns c =
-    let start = c .before .before .before .before in
-    let end = c .before .loop in
-    let which = start .args .which in
-    let ps = start .args .self .places in
-    let above : length ps ≤ end .i = omega (arith, four start, c .loop-test .left) in
-    let all = actions-all which ps (end .i) above in (
-      ap (withPlaces (start .args .self)) (end .inv .2 ∙ closings-all which ps (end .i) above),
-      end .inv .3 ∙ ap length all,
-      end .inv .4 ∙ ap (λ l. written l (now (start .args .s))) all,
+    let end = c .before in
+    let inv = end .loop .inv in
+    let above : length (ps end) ≤ end .loop .i = omega (arith, four end, c .loop-test .left) in
+    let all = actions-all (which end) (ps end) (end .loop .i) above in (
+      ap (withPlaces (start end .args .self)) (inv .2 ∙ closings-all (which end) (ps end) (end .loop .i) above),
+      inv .3 ∙ ap length all,
+      inv .4 ∙ ap (λ l. written l (buffer end)) all,
     )
 
 pub write-closings-spec : {M : Type 1} → statement M

@@ -1,0 +1,1 @@
+// The promises on one page: theorems only, no function.

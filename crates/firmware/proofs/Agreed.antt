@@ -1,7 +1,0 @@
--- What was agreed: laws in the words of the documents. The folder comes first by its name, so that a wrong edit of a definition is
--- refused first at the sentence that it breaks.
-pub mod Answers
-pub mod ImageWords
-pub mod Meanings
-pub mod Seen
-pub mod Shown

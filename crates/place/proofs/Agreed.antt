@@ -1,8 +1,0 @@
--- What was agreed: laws in the words of the documents. The folder comes first by its name, so that a wrong edit of a definition is
--- refused first at the sentence that it breaks.
-pub mod Limit
-pub mod Losses
-pub mod Numbered
-pub mod Rows
-pub mod Tries
-pub mod Versions
