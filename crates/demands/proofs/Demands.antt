@@ -17,9 +17,11 @@ use Rattle.onsight.specs.declared.procedure.State as onsight-state
 use Rattle.record.specs.declared.event.Cause.{Cause}
 use Rattle.record.specs.declared.event.Event.the-variants.{Order}
 use Rattle.unit.specs.States.{nowhere}
+use Rattle.unit.specs.OnRecords.{trace}
+use Rattle.firmware.specs.Calls.{Seen, returned}
 use Rattle.unit.specs.Steps.{step}
 use Rattle.image.specs.Images.{writeA2, imagedA2, imagedA1}
-use Rattle.history.specs.Reaching.{HeldTo, order5, up5, call5, lost5, drop5}
+use Rattle.history.specs.Reaching.{rbc5, order5, up5, call5, lost5, drop5, retries}
 use Rattle.sets.specs.SixSets.{setStart}
 use Rattle.shunter.specs.Queues.{coldShunter}
 use Rattle.shunter.specs.Shunting.{shunt}
@@ -36,8 +38,8 @@ use Rattle.shunter.proofs as in-shunter
 use Rattle.marks.proofs as in-marks
 use Rattle.firmware.proofs as in-firmware
 use Rattle.demands.specs.Words.{Bytes, coldState, IsRefused, Untouched, IsImageOf, AtMost, AtMostFor, gives, is14, InState}
-use Rattle.demands.specs.Words.{InPhase, FoundAs, Accepts, Ours, line, modems, markMany, LooksUp, seenOf, Board, seenBy, lastOf}
-use Rattle.demands.specs.Words.{recordsBy, endOfBoard, AtMostSeen, byte, isRbc, reserved, reading, taken, Partner, Reading, Whole}
+use Rattle.demands.specs.Words.{StillHeld, InPhase, FoundAs, Accepts, Ours, line, modems, markMany, LooksUp, seenOf, Board, seenBy}
+use Rattle.demands.specs.Words.{lastOf, recordsBy, byte, isRbc, reserved, reading, taken, Partner, Reading, Whole}
 use Rattle.demands.specs.Words.{tries, again, judged, Limits, Connecting, Contacting, Open, Lost, Ending, Place, Stays, Released}
 use Rattle.demands.specs.Words.{Becomes, Sends, examples, got, want, gotBytes, wantBytes, sentBytes, coldStart, defaultStart}
 use Rattle.demands.specs.Words.{cold, sound, seek, meant, rbcOf, toRbc, onRecord, run, course, applies, tallied, fresh}
@@ -50,18 +52,21 @@ use Rattle.demands.specs.Words.{stateOf, onSets, SetName, SetState, judg
 use Rattle.demands.specs.Words.{AnEvent, Right, wholeRecords, built, builtRoom, extended, extendedRoom, lookedUp, ready}
 use Rattle.demands.specs.Words.{shunterAfter, modemReleases, ahead, waitsThrough, Shunter, Mode, Acknowledgement, Expiry}
 
--- Signs: `≡` equal, `×` and, `⊎` or, `↔` exactly when, `→ ⊥` not, `(x : T) →` for every x; `p ≡ true`, the test p passes;
--- `∷` and `++` put a thing in front of a row, and two rows together.
+-- Signs: `≡` equal, `×` and, `⊎` or, `↔` exactly when, `→ ⊥` not, `(x : T) →` for every x, `(x : T) ×` there is an x;
+-- `p ≡ true`, the test p passes; `∷` and `++` put a thing in front of a row, and two rows together; `s .f`, the field f of s;
+-- `λ x. e`, e by x.
 -- How to read it. `onRecord s bytes room` is 01's step from the state s on a record, with `room` bytes lent for its actions: .code is 0
 -- or the refusal, .state the next state, .actions what is sent, in its order, .standing the place and phase told. `coldState l` is the
 -- state of a cold start with the limits l, the two X numbers and the tries n; `sound` is 01's soundness; `run s log budget` is 01's run;
 -- a history is a row of records, each stepped with 20 bytes, and `after s history` the state after it. That the code meets contracts
 -- which cite these definitions is what the checker accepts; that a contract leaves one answer, `onRecord` for `State.on_record`, `run`
--- for `run` and so on, is Doors.antt. Other words are said where they are used, and defined in specs/Words.antt or where it leads.
+-- for `run` and so on, is Doors.antt. Other words are said where they are used, and defined in specs/Words.antt or where that file and
+-- the `use` lines above lead.
 
 -- DEMAND 1: door by door in Doors.antt. Which number is given first is 01's order, a list of needs with their numbers, by definition: in
--- `onRecord`, `applied`, `reading`, `ordered`, `called`, `named`, `run`, `needsA2`, `needsA1`, `readAs`
--- demand D-1-1: a part of it: what the box gives it takes: a cold start is sound, and a step keeps a state sound
+-- `onRecord`, `applied`, `ordered`, `called`, `named`, `atHole`, `run`, `coldStart` (unit/specs), `reading`, `taken` (record/specs),
+-- `needsA2`, `needsA1`, `readAs` (image/specs)
+-- demand D-1-1: a part: what the box gives, it takes: a cold start is sound, and a step keeps a state sound
 pub always-sound : ((l : Limits) → sound (coldState l) ≡ true)
     × ((s : State) (bytes : Bytes) (room : ℕ) → sound s ≡ true → sound (onRecord s bytes room .state) ≡ true)
 always-sound = (in-unit.Starts.cold-sound, in-unit.Sound.onRecord-sound)
@@ -72,7 +77,8 @@ pub step-kept : (s : State) (bytes : Bytes) (room : ℕ) (buffer : Bytes) → Is
 step-kept s bytes room buffer r =
     (in-unit.Again.Refusals.onRecord-kept s bytes room r .0, in-unit.Again.Writing.onRecord-writes-nothing s bytes room buffer r)
 
--- demand D-1-3: of a run, and of writing an image
+-- demand D-1-3: of a run, and of writing an image; of a call from C it is `call-kept`, below; of the others laws (`image:rescue-refused`
+-- `sets:sets-kept` `shunter:shunt-kept` `judge:produce-kept`)
 pub others-kept :
     ((s : State) (log : Bytes) (budget : ℕ) → IsRefused (run s log budget .code) → run s log budget .tally .state ≡ s)
     × ((s : State) (buffer : Bytes) → (IsRefused (writeA2 s (length buffer) .code) → imagedA2 s buffer ≡ buffer)
@@ -100,14 +106,15 @@ pub read-writes : (bytes : Bytes) → readImage bytes .code ≡ 0
 read-writes = in-image.RoundTrips.written-read
 
 -- DEMAND 3: every number is a sum over the steps of demand 2. `AtMost a b c s history`: its actions are at most a · its accepted orders
--- + b · its accepted calls 38 + c · its accepted losses; `sumsOf n` counts a history from a cold start with n tries, `counts` is what
--- it should be; `silent p`: each record names somebody else or nobody, or is a timeout for p
+-- + b · its accepted calls 38 + c · its accepted losses; `sumsOf n` counts a history from a cold start, X 1 to 2 and n tries, and
+-- `counts` is what it should be; `silent p`: each record names somebody else or nobody, or is a timeout for p
 -- demand D-3-1: "In any history from a cold start, with no image loaded in it, at most 11 actions for each order accepted, 5 for each
 -- accepted call from an RBC, 3 for each accepted loss"
 pub bounded : (l : Limits) → l .tries ≡ 3 → coldStart l .code ≡ 0 → (history : List Bytes) → AtMost 11 5 3 (coldState l) history
 bounded = in-history.Bounds.demand-bound
 
--- demand D-3-2: "and histories are shown that reach 11, 5 and 3": of a orders, b calls and c losses
+-- demand D-3-2: "and histories are shown that reach 11, 5 and 3": of a orders, b calls and c losses, with RBC 5 (`reaching`, an example);
+-- a loss needs an order or a call before it
 pub reached : (a b c : ℕ) → (c ≡ 0) ⊎ (0 < a + b) → sumsOf 3 (reaching 3 a b c) ≡ counts a b c (11 * a + 5 * b + 3 * c)
 reached = in-history.Reached.demand-reached
 
@@ -188,10 +195,10 @@ pub n-reached : (n : ℕ) → 1 ≤ n → n ≤ 9 → (a b c : ℕ) → (c ≡ 0
 n-reached = in-history.Reached.reached
 
 -- demand Q-3-5, Q-3-6: "and n timeouts, each reached": in each phase that waits RBC 5 still holds its place after n - 1 of them
--- (`HeldTo`)
+-- (`StillHeld`)
 pub n-needed : (n : ℕ) → 1 ≤ n → n ≤ 9
-    → HeldTo n (order5 ∷ []) (Connecting 1) × HeldTo n (order5 ∷ up5 ∷ []) (Contacting 1)
-    × HeldTo n (call5 ∷ lost5 ∷ []) (Lost 1) × HeldTo n (call5 ∷ drop5 ∷ []) (Ending 1)
+    → StillHeld n rbc5 (order5 ∷ []) (retries n) (Connecting 1) × StillHeld n rbc5 (order5 ∷ up5 ∷ []) (retries n) (Contacting 1)
+    × StillHeld n rbc5 (call5 ∷ lost5 ∷ []) (retries n) (Lost 1) × StillHeld n rbc5 (call5 ∷ drop5 ∷ []) (retries n) (Ending 1)
 n-needed = in-history.Reached.waiting-not-sooner-each
 
 -- Q-4, NEW STORED IMAGE, OLD BOXES STILL IN SERVICE
@@ -240,8 +247,9 @@ pub told-nowhere : (s : State) (bytes : Bytes) (room : ℕ)
 told-nowhere s bytes room =
     (in-unit.Again.Standings.onRecord-nobody s bytes room, in-unit.Again.Standings.onRecord-silent s bytes room)
 
--- Q-7, A SECOND ENGINE, BUILT FROM THE SETS: `SameState`, the same other fields, and for every test on a set and a member as many places
--- pass as members; `SameAnswer`, the same code, states that mean the same, and for every test as many actions pass. `unpacked`, the sets
+-- Q-7, A SECOND ENGINE, BUILT FROM THE SETS: `SameState`, the same other fields, and for every test on a set and a member (its partner,
+-- tries and direction) as many places pass as members; `SameAnswer`, the same code and phase told, states that mean the same, and for every
+-- test as many actions pass. `sixIn`, the six sets; `setIn w`, the one named w. `unpacked`, the sets
 -- as lists; `packedSets`, as the code holds them; `setsOf`, `stateOf`, a state of the one engine made one of the other. `setReady`, not
 -- refused with 11: the rules of the next line are among its tests, so what counts is that a cold start meets them and every step keeps
 -- them
@@ -291,8 +299,8 @@ judge-exact l sheet = (
   (λ row o. in-judge.Again.Accepted.ours-accepted l sheet row (o .0) (o .1) (o .2)),
 )
 
--- demand Q-9-6: "Otherwise it gives the offset of the first record that is wrong, short or missing": the bytes before it are the front of
--- a sheet of ours, and not what is due stands there (`FaultAt`)
+-- demand Q-9-6, Q-9-7: "Otherwise it gives the offset of the first record that is wrong, short or missing": the bytes before it are the
+-- front of a sheet of ours, and not what is due stands there (`FaultAt`); "a missing one counts at the end of the sheet"
 pub judge-fault : (l : Limits) (sheet : Bytes) → judgement l sheet .code ≡ 0 → isRight (judgement l sheet .point .stands) ≡ false
     → FaultAt (cold l) sheet (judgement l sheet .point .at) (judgement l sheet .point .due)
     × (judgement l sheet .point .stands ≡ against (judgement l sheet .point .due) (drop (judgement l sheet .point .at) sheet))
@@ -331,7 +339,7 @@ pub either-order : (s : State) → sound s ≡ true → (x y : Delivered) → Di
 either-order s ok x y d = (in-either.either-answers s ok x y d, in-either.either-alike s ok x y d, in-either.either-same s ok x y d)
 
 -- Q-12, JUMP INTO A LONG LOG: `wholeRecords log`, its records before the stop; `markMany`, how many marks they have; `builtRoom`, the
--- marks built; `LooksUp`, 0, the state and the offset of the run of n records, and n mod 256 steps
+-- lent room with the marks at its front; `LooksUp`, 0, the state and the offset of the run of n records, and n mod 256 steps
 -- demand Q-12-4, Q-12-5, Q-12-7: "The state after record n, found from the nearest mark at or before n, equals the run of n records, and
 -- it reports how many it stepped, at most 255"; "for marks built from this log and this cold start"
 pub looked-up : (l : Limits) (log room : Bytes) (n : ℕ) → built l log room .code ≡ 0 → n ≤ wholeRecords log
@@ -361,8 +369,8 @@ pub rescue-twice : (image : Bytes) → (rescued (rescued image) ≡ rescued imag
 rescue-twice = in-image.Again.Rescues.rescue-twice
 
 -- Q-14, CALL THE CORE FROM THE C FIRMWARE: `seenAfter`, what C sees after a call, and `seenOf o` what it should see of a step o: the
--- number, the image, the buffer. A `Board` is a cold start and a row of calls: `seenBy`, what C sees; `lastOf`, its last image;
--- `endOfBoard`, the state after the same records
+-- number, the image, the buffer. A `Board` is a cold start and a row of calls: `seenBy`, what C sees; `lastOf`, its last image. Demand 3
+-- counted from what C sees, sentence by sentence, are laws (docs/PROMISES.md)
 -- demand Q-14-2 to Q-14-4: "the number of actions or minus the refusal; the image then holds the next state. It equals reading the image,
 -- one step and writing it"
 pub call-steps : (image bytes buffer : Bytes) → 20 ≤ length buffer → readA2 image .code ≡ 0
@@ -374,13 +382,17 @@ pub call-kept : (image bytes buffer : Bytes) → isAccepted (seenAfter image byt
     → (seenAfter image bytes buffer .image ≡ image) × (seenAfter image bytes buffer .actions ≡ buffer)
 call-kept = in-firmware.Again.Answers.step-refused
 
--- demand Q-14-6: "Demands 2 and 3 are read through the images, starting from one that a cold start wrote": demand 2
+-- demand Q-14-6: "Demands 2 and 3 are read through the images, starting from one that a cold start wrote": the last image is that of the
+-- state after the same records, and reads as it; the numbers returned are those of the steps (`trace`): the actions and the accepted
+-- records of demand 3 are counted from them; 22s and partners from the buffers, a law (`firmware:bytes-follow`)
 pub board-follows : (b : Board)
-    → (lastOf b ≡ imageA2 (endOfBoard b)) × (readA2 (lastOf b) ≡ record { code = 0; state = endOfBoard b })
+    → (lastOf b ≡ imageA2 (after (coldState (b .limits)) (recordsBy b)))
+    × (readA2 (lastOf b) ≡ record { code = 0; state = after (coldState (b .limits)) (recordsBy b) })
+    × (map (λ (x : Seen). x .number) (seenBy b) ≡ map returned (trace (coldState (b .limits)) (recordsBy b)))
 board-follows b =
-    in-firmware.Again.Seen.image-follows (b .lowest) (b .highest) (b .tries) (b .ranges) (b .room) (b .long) (b .history) (b .enough)
-
--- demand Q-14-6: of demand 3 the bounds, by the numbers returned; partners taken in and the waiting partner are laws (docs/PROMISES.md)
-pub board-bounded : (b : Board) → AtMostSeen (3 * b .tries + 2) (b .tries + 2) (b .tries) (recordsBy b) (seenBy b)
-board-bounded b =
-    in-firmware.Again.Seen.seen-bound (b .lowest) (b .highest) (b .tries) (b .ranges) (b .room) (b .long) (b .history) (b .enough)
+    let l = b .limits in
+    let ranges = in-unit.Again.Starts.coldStart-accepted l .0 (b .begun) in
+    let image = in-firmware.Again.Seen.image-follows (l .lowest) (l .highest) (l .tries) ranges in
+    let numbers = in-firmware.Again.Seen.numbers-follow (l .lowest) (l .highest) (l .tries) ranges in
+    let images = image (b .room) (b .long) (b .history) (b .enough) in
+    (images .0, images .1, numbers (b .room) (b .long) (b .history) (b .enough))

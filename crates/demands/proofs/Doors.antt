@@ -13,7 +13,7 @@ use prog.Routine.{Routine}
 use prog.Wp.{Heap}
 use ghost.Atoms.{Atoms}
 use contract.Monad.{Fun, fact}
-use Rattle.demands.specs.Words.{One, OneLent, lentFirst, lentSecond, lentThird, lentFourth, lentFirstAndThird}
+use Rattle.demands.specs.Words.{Bytes, One, OneLent}
 use Rattle.record.specs.Records.{reading}
 use Rattle.record.specs.Takes.{taken}
 use Rattle.unit.specs.States.{coldStart, defaultStart, sound}
@@ -65,7 +65,7 @@ pub apply-once : One in-unit.state.State.apply.Reads.Post (λ (s, (bytes, _)). p
 apply-once κ entry exit r p = p
 
 -- demand D-1-1: `unit:State.on_record`, of a state, a record and a lent action buffer: 10, then as apply
-pub on-record-once : OneLent in-unit.state.State.on_record.Reads.Post lentThird
+pub on-record-once : OneLent in-unit.state.State.on_record.Reads.Post (λ (_, (_, (buffer, _))). now buffer)
     (λ (s, (bytes, (buffer, _))). (
       stepped (onRecord s (now bytes) (length (now buffer))),
       written (onRecord s (now bytes) (length (now buffer)) .actions) (now buffer),
@@ -85,12 +85,12 @@ pub take-once : One in-record.take.take.Reads.Post (λ (log, _). taken (now log)
 take-once κ entry exit r p = p
 
 -- demand D-1-1: `image:write_a2`, of a state and a lent buffer: 10, 11
-pub write-a2-once : OneLent in-image.write.write_a2.Reads.Post lentSecond
+pub write-a2-once : OneLent in-image.write.write_a2.Reads.Post (λ (_, (buffer, _)). now buffer)
     (λ (s, (buffer, _)). (writeA2 s (length (now buffer)), imagedA2 s (now buffer)))
 write-a2-once κ entry exit r p = p
 
 -- demand D-1-1: `image:write_a1`, of a state and a lent buffer: 10, 11, 16
-pub write-a1-once : OneLent in-image.write.write_a1.Reads.Post lentSecond
+pub write-a1-once : OneLent in-image.write.write_a1.Reads.Post (λ (_, (buffer, _)). now buffer)
     (λ (s, (buffer, _)). (writeA1 s (length (now buffer)), imagedA1 s (now buffer)))
 write-a1-once κ entry exit r p = p
 
@@ -103,11 +103,12 @@ pub read-a2-once : One in-image.read.read_a2.Reads.Post (λ (bytes, _). readA2 (
 read-a2-once κ entry exit r p = p
 
 -- demand D-1-1: `image:rescue`, of a lent image A2: 1, 2, 1, then 11 for the X numbers or n
-pub rescue-once : OneLent in-image.rescue.rescue.Reads.Post lentFirst (λ (image, _). (rescue (now image), rescued (now image)))
+pub rescue-once : OneLent in-image.rescue.rescue.Reads.Post (λ (image, _). now image)
+    (λ (image, _). (rescue (now image), rescued (now image)))
 rescue-once κ entry exit r p = p
 
 -- demand D-1-1: `text:sheet_into`, of a log and a lent buffer: 0 bytes where it is under the room that every sheet has
-pub sheet-into-once : OneLent in-text.sheet.sheet_into.Reads.Post lentSecond
+pub sheet-into-once : OneLent in-text.sheet.sheet_into.Reads.Post (λ (_, (buffer, _)). now buffer)
     (λ (input, (buffer, _)). (sheetCount (now input) (length (now buffer)), sheetPlaced (now input) (now buffer)))
 sheet-into-once κ entry exit r p = p
 
@@ -128,7 +129,7 @@ pub set-apply-once : One in-sets.state.SetState.apply.Reads.Post (λ (b, (bytes,
 set-apply-once κ entry exit r p = p
 
 -- demand D-1-1: `sets:SetState.on_record`, of a state, a record and a lent action buffer: as the place engine's
-pub set-on-record-once : OneLent in-sets.state.SetState.on_record.Reads.Post lentThird
+pub set-on-record-once : OneLent in-sets.state.SetState.on_record.Reads.Post (λ (_, (_, (buffer, _))). now buffer)
     (λ (b, (bytes, (buffer, _))). (setStepped (onSets b (now bytes) (length (now buffer))), setBuffer b (now bytes) (now buffer)))
 set-on-record-once κ entry exit r p = p
 
@@ -148,7 +149,7 @@ pub judged-once : {M : Type 1} (U : URA M) (H : Heap U) (A : Atoms U) (mem : Mem
 judged-once U H A mem run P κ reader limits r p = p
 
 -- demand D-1-1: `judge:produce`, of a cold start, a log and lent room: 13, 12, 12, 10
-pub produce-once : OneLent in-judge.produce.produce.Reads.Post lentThird
+pub produce-once : OneLent in-judge.produce.produce.Reads.Post (λ (_, (_, (buffer, _))). now buffer)
     (λ (limits, (log, (room, _))). (produced limits (now log) (length (now room)), producedRoom limits (now log) (now room)))
 produce-once κ entry exit r p = p
 
@@ -165,7 +166,7 @@ pub shunter-apply-once : One in-shunter.state.Shunter.apply.Reads.Post (λ (h, (
 shunter-apply-once κ entry exit r p = p
 
 -- demand D-1-1: `shunter:Shunter.on_record`, of a shunter, a record and a lent action buffer: 10, then as apply
-pub shunter-on-record-once : OneLent in-shunter.state.Shunter.on_record.Reads.Post lentThird
+pub shunter-on-record-once : OneLent in-shunter.state.Shunter.on_record.Reads.Post (λ (_, (_, (buffer, _))). now buffer)
     (λ (h, (bytes, (buffer, _))). (sentOf (shunt h (now bytes) (length (now buffer))), sentBuffer h (now bytes) (now buffer)))
 shunter-on-record-once κ entry exit r p = p
 
@@ -174,12 +175,12 @@ pub shunter-run-once : One in-shunter.run.run.Reads.Post (λ (h, (log, (budget, 
 shunter-run-once κ entry exit r p = p
 
 -- demand D-1-1: `marks:build`, of a cold start, a log and lent room: 13, 12, 10
-pub build-once : OneLent in-marks.build.build.Reads.Post lentThird
+pub build-once : OneLent in-marks.build.build.Reads.Post (λ (_, (_, (buffer, _))). now buffer)
     (λ (limits, (log, (room, _))). (built limits (now log) (now room), builtRoom limits (now log) (now room)))
 build-once κ entry exit r p = p
 
 -- demand D-1-1: `marks:extend`, of a cold start, a log, how many marks are held, and lent room: 13, 12, 11, 10
-pub extend-once : OneLent in-marks.build.extend.Reads.Post lentFourth
+pub extend-once : OneLent in-marks.build.extend.Reads.Post (λ (_, (_, (_, (buffer, _)))). now buffer)
     (λ (limits, (log, (held, (room, _)))). (extended limits (now log) held (now room), extendedRoom limits (now log) held (now room)))
 extend-once κ entry exit r p = p
 
@@ -188,7 +189,7 @@ pub look-up-once : One in-marks.lookup.look_up.Reads.Post (λ (limits, (log, (ma
 look-up-once κ entry exit r p = p
 
 -- demand D-1-1: `firmware:resheftal_cold_start`, of X numbers, n and a lent image: 13, 10, as minus the number
-pub firmware-start-once : OneLent in-firmware.start.resheftal_cold_start.Reads.Post lentFourth
+pub firmware-start-once : OneLent in-firmware.start.resheftal_cold_start.Reads.Post (λ (_, (_, (_, (buffer, _)))). now buffer)
     (λ (lowest, (highest, (tries, (image, _)))). (
       startReturned (limitsOf lowest highest tries) (length (now image)),
       startImage (limitsOf lowest highest tries) (now image),
@@ -197,7 +198,8 @@ firmware-start-once κ entry exit r p = p
 
 -- demand D-1-1: `firmware:resheftal_step`, of a lent image, a record and a lent action buffer: 10, then 1, 2, 1, 11 of the image, then
 -- 1, 2, 1, 3 and the event's, as minus the number
-pub firmware-step-once : OneLent in-firmware.step.resheftal_step.Reads.Post lentFirstAndThird
+pub firmware-step-once : OneLent {L = Bytes × Bytes} in-firmware.step.resheftal_step.Reads.Post
+    (λ (image, (_, (buffer, _))). (now image, now buffer))
     (λ (image, (bytes, (buffer, _))). (
       seenAfter (now image) (now bytes) (now buffer) .number,
       (seenAfter (now image) (now bytes) (now buffer) .image, seenAfter (now image) (now bytes) (now buffer) .actions),

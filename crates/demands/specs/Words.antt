@@ -1,7 +1,6 @@
 -- The words of the page. First those that the crates below define, handed on; then its own, which keep its lines short.
--- Defines: Bytes, coldState, IsRefused, One, OneLent, lentFirst, lentSecond, lentThird, lentFourth, lentFirstAndThird, Untouched,
--- IsImageOf, AtMost, AtMostFor, everyEvent, gives, is14, InState, InPhase, FoundAs, Accepts, Ours, line, modems, markMany, LooksUp,
--- seenOf, Board, firstOf, seenBy, lastOf, recordsBy, endOfBoard, AtMostSeen.
+-- Defines: Bytes, coldState, IsRefused, One, OneLent, Untouched, IsImageOf, AtMost, AtMostFor, StillHeld, everyEvent, gives, is14,
+-- InState, InPhase, FoundAs, Accepts, Ours, line, modems, markMany, LooksUp, seenOf, Board, seenBy, lastOf, recordsBy.
 use Prim.Native.Nat.{ℕ, _+_, _*_, _/_, _%_, _≤_, _<_}
 use mathlib.Core.Path.{_≡_}
 use mathlib.Core.Logic.{_⊎_}
@@ -9,8 +8,7 @@ use mathlib.Core.Bool.{true, false, cond}
 use mathlib.Core.List.{List, [], _∷_, map}
 use lib.Dec.{eqb}
 use lib.IntN.{pos, negℤ}
-use lib.ListN.{length, getD}
-use denote.Ref.{RefT, now}
+use lib.ListN.{length, take, getD}
 use Rattle.onsight.specs.Procedures as onsight
 use Rattle.onsight.specs.declared.procedure.State as onsight-state
 use Rattle.onsight.specs.declared.procedure.Answer as onsight-answer
@@ -65,9 +63,8 @@ pub use Rattle.image.specs.Rescue.{rescue, rescued, told}
 -- firmware
 pub use Rattle.firmware.specs.Calls.{seenAfter}
 use Rattle.firmware.specs.Calls.{Seen}
-use Rattle.firmware.specs.Starts.{startedWith, firstImage}
-pub use Rattle.firmware.specs.Along.{Lent, lentRecords, roomy, seenAlong, lastImage, isAccepted, ordersSeen, callsSeen}
-use Rattle.firmware.specs.Along.{actionsSeen, lossesSeen}
+use Rattle.firmware.specs.Starts.{startImage}
+pub use Rattle.firmware.specs.Along.{Lent, lentRecords, roomy, seenAlong, lastImage, isAccepted}
 -- history
 pub use Rattle.history.specs.Histories.{after, releases, placesHeld, holdsPlace, waits, silent, timeouts}
 pub use Rattle.history.specs.Histories.{orders, calls}
@@ -75,6 +72,7 @@ pub use Rattle.history.specs.Histories.{releasesOf, sent}
 use Rattle.history.specs.Histories.{actions, losses}
 use Rattle.history.specs.Histories.{actionsOf, ordersOf, callsOf, lossesOf}
 pub use Rattle.history.specs.Sums.{sumsOf, counts}
+use Rattle.history.specs.Sums.{started}
 pub use Rattle.history.specs.Reaching.{reaching}
 pub use Rattle.history.specs.EitherOrder.{Delivered, Differ, Alike, Compared, next, alone}
 -- sets
@@ -129,22 +127,6 @@ abbrev pub OneLent : {K A R L : Type 0} → (K → A → R → A → Type 0) →
 OneLent {K} {A} {R} contract lent answer =
     (κ : K) (entry exit : A) (r : R) → contract κ entry r exit → (r ≡ answer entry .0) × (lent exit ≡ answer entry .1)
 
--- the bytes that are lent, by their place among the arguments
-abbrev pub lentFirst : {B : Type 0} → RefT (List ℕ) × B → List ℕ
-lentFirst a = now (a .0)
-
-abbrev pub lentSecond : {A B : Type 0} → A × (RefT (List ℕ) × B) → List ℕ
-lentSecond a = now (a .1 .0)
-
-abbrev pub lentThird : {A B C : Type 0} → A × (B × (RefT (List ℕ) × C)) → List ℕ
-lentThird a = now (a .1 .1 .0)
-
-abbrev pub lentFourth : {A B C D : Type 0} → A × (B × (C × (RefT (List ℕ) × D))) → List ℕ
-lentFourth a = now (a .1 .1 .1 .0)
-
-abbrev pub lentFirstAndThird : {A B : Type 0} → RefT (List ℕ) × (A × (RefT (List ℕ) × B)) → List ℕ × List ℕ
-lentFirstAndThird a = (now (a .0), now (a .1 .1 .0))
-
 -- Demand 1: "it leaves the state and every lent byte as they were"
 abbrev pub Untouched : State → Bytes → Outcome → Type 0
 Untouched s buffer o = (o .state ≡ s) × (written (o .actions) buffer ≡ buffer)
@@ -161,19 +143,19 @@ abbrev pub AtMostFor : Partner → ℕ → ℕ → ℕ → State → List Bytes 
 AtMostFor p order call loss s history =
     actionsOf p s history ≤ order * ordersOf p s history + call * callsOf p s history + loss * lossesOf p s history
 
+-- Q-3: from a cold start with X 1 to 2 and n tries partner p waits after these records, place 0 in this phase, and after one timeout less
+-- than n, and nothing else for it, it still holds its place
+abbrev pub StillHeld : ℕ → Partner → List Bytes → List Bytes → Phase → Type 0
+StillHeld n p records silence ph =
+    let s : State = after (started n) records in
+    (heldPhase (getD (s .places) 0 vacant) ≡ ph) × (waits p (s .places) ≡ true) × (silent p s silence ≡ true)
+    × (timeouts p silence + 1 ≡ n) × (holdsPlace p (after s silence .places) ≡ true)
+
 -- Q-1: what each event gives in a state of On-Sight, row by row: a next state, or 14
 abbrev pub everyEvent : Mode → List onsight-event.Event
 everyEvent mode =
-    Profile Ahead mode
-    ∷ Profile Entered OS
-    ∷ Profile Entered SB
-    ∷ Profile Entered PT
-    ∷ Profile Entered Another
-    ∷ Window
-    ∷ Start
-    ∷ Acknowledgement
-    ∷ Expiry
-    ∷ []
+    Profile Ahead mode ∷ Profile Entered OS ∷ Profile Entered SB ∷ Profile Entered PT ∷ Profile Entered Another
+    ∷ Window ∷ Start ∷ Acknowledgement ∷ Expiry ∷ []
 
 abbrev pub gives : onsight-state.State → onsight-state.State → onsight-answer.Answer
 gives next s = record { code = 0; state = next }
@@ -192,9 +174,7 @@ InPhase l v ph row = map (turn l ph) (Drop ∷ Up ∷ Loss ∷ Timeout ∷ Versi
 abbrev pub FoundAs : Partner → List Place → Found → Type 0
 FoundAs p ps (At i ph) = (i < length ps) × (holds p (getD ps i vacant) ≡ true) × (heldPhase (getD ps i vacant) ≡ ph)
 FoundAs p ps (Vacant i) =
-    (i < length ps)
-    × (isFree (getD ps i vacant) ≡ true)
-    × (sum (here (holds p)) ps ≡ 0)
+    (i < length ps) × (isFree (getD ps i vacant) ≡ true) × (sum (here (holds p)) ps ≡ 0)
     × ((j : ℕ) → j < i → isFree (getD ps j vacant) ≡ false)
 FoundAs p ps Full = (sum (here isFree) ps ≡ 0) × (sum (here (holds p)) ps ≡ 0)
 
@@ -228,39 +208,25 @@ LooksUp l log n looked =
 -- Q-14: what C sees of a step: "the number of actions or minus the refusal", the next state over the image, the actions in the buffer
 abbrev pub seenOf : Outcome → Bytes → Bytes → Seen
 seenOf o image buffer =
-    record {
-      number = cond (eqb (o .code) 0) (pos (length (o .actions))) (negℤ (pos (o .code)));
-      image = cond (eqb (o .code) 0) (imagedA2 (o .state) image) image;
-      actions = written (o .actions) buffer;
-    }
+    let number = cond (eqb (o .code) 0) (pos (length (o .actions))) (negℤ (pos (o .code))) in
+    let next : Bytes = cond (eqb (o .code) 0) (imagedA2 (o .state) image) image in
+    record { number = number; image = next; actions = written (o .actions) buffer }
 
--- a second board: a cold start in its ranges over a buffer of 42 bytes or more, then calls, each with a record and a buffer of 20 or more
+-- a second board: an accepted cold start over a buffer of 42 bytes or more, then calls, each with a record and a buffer of 20 or more
 pub record Board : Type 0 where
-  pub lowest : ℕ
-  pub highest : ℕ
-  pub tries : ℕ
-  pub ranges : (lowest ≤ highest) × (highest ≤ 7) × (1 ≤ tries) × (tries ≤ 9)
+  pub limits : Limits
+  pub begun : coldStart limits .code ≡ 0
   pub room : Bytes
   pub long : 42 ≤ length room
   pub history : List Lent
   pub enough : roomy history ≡ true
 
--- what C sees after each call, and the last image; the records of the calls, and the state after them from the same cold start
-abbrev pub firstOf : Board → Bytes
-firstOf b = firstImage (b .lowest) (b .highest) (b .tries) (b .room)
-
+-- what C sees after each call, from the image that the cold start wrote, and the last image; the records of the calls
 abbrev pub seenBy : Board → List Seen
-seenBy b = seenAlong (firstOf b) (b .history)
+seenBy b = seenAlong (take 42 (startImage (b .limits) (b .room))) (b .history)
 
 abbrev pub lastOf : Board → Bytes
-lastOf b = lastImage (firstOf b) (seenBy b)
+lastOf b = lastImage (take 42 (startImage (b .limits) (b .room))) (seenBy b)
 
 abbrev pub recordsBy : Board → List Bytes
 recordsBy b = lentRecords (b .history)
-
-abbrev pub endOfBoard : Board → State
-endOfBoard b = after (startedWith (b .lowest) (b .highest) (b .tries)) (recordsBy b)
-
-abbrev pub AtMostSeen : ℕ → ℕ → ℕ → List Bytes → List Seen → Type 0
-AtMostSeen order call loss records seen =
-    actionsSeen records seen ≤ order * ordersSeen records seen + call * callsSeen records seen + loss * lossesSeen records seen

@@ -23,9 +23,10 @@ use Rattle.unit.proofs.Again.Refusals.{onRecord-kept}
 use Rattle.unit.specs.declared.start.Started.{Started}
 use Rattle.image.specs.Images.{imageA2}
 use Rattle.image.proofs.RoundTrips.{readA2-written}
-use Rattle.history.specs.Histories.{endOf, after, sumOver, summed}
+use Rattle.history.specs.Histories.{after, summed}
 use Rattle.firmware.specs.Calls.{onImage, returned, imageAfter, Seen, seenAfter}
-use Rattle.firmware.specs.Along.{Lent, lentRecords, roomy, seenAlong, lastImage, isAccepted, countOf, overSeen}
+use Rattle.firmware.specs.Along.{Lent, lentRecords, roomy, seenAlong, lastImage, isAccepted}
+use Rattle.firmware.specs.AlongWords.{countOf, overSeen}
 use Rattle.firmware.proofs.Calling.{onImage-no-room, onImage-steps, onImage-none, onImage-few}
 
 -- any room of 20 bytes and more is as good as 20
@@ -128,7 +129,7 @@ pub over-follows : (f : List ℕ → Seen → ℕ) (g : State → List ℕ → O
     → sound s ≡ true
     → roomy history ≡ true
     → overSeen f (lentRecords history) (seenAlong (imageA2 s) history) ≡ summed g s (lentRecords history)
-unfolding seenAlong trace overSeen summed sumOver
+unfolding seenAlong trace overSeen summed
 over-follows f g each s [] good enough = refl
 over-follows f g each s (x ∷ rest) good enough =
     ap (overSeen f (lentRecords (x ∷ rest))) (next-calls s x rest good enough)
@@ -140,7 +141,7 @@ pub image-after : (s : State) (history : List Lent)
     → sound s ≡ true
     → roomy history ≡ true
     → lastImage (imageA2 s) (seenAlong (imageA2 s) history) ≡ imageA2 (after s (lentRecords history))
-unfolding seenAlong trace lastImage after endOf
+unfolding seenAlong trace lastImage after
 image-after s [] good enough = refl
 image-after s (x ∷ rest) good enough =
     let next = onRecord s (x .bytes) actionRoom .state in

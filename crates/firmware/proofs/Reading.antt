@@ -23,7 +23,8 @@ use Rattle.unit.specs.States.{placeCount, some}
 use Rattle.unit.specs.OnRecords.{actionBytes}
 use Rattle.unit.specs.declared.state.State.{State}
 use Rattle.unit.specs.declared.answer.Action.{Action}
-use Rattle.image.specs.Images.{placeBytes, placesBytes, tailBytes, bodyBytes, wholeBytes, imageA2}
+use Rattle.image.specs.Images.{placeBytes, bodyBytes, wholeBytes, imageA2}
+use Rattle.image.specs.Bodies.{placesBytes, tailBytes}
 use Rattle.history.specs.Histories.{placesHeld, waitingPhase, waitsAt}
 use Rattle.wire.specs.Bytes.{asBit}
 use Rattle.firmware.specs.AlongWords.{actionsPassing, placesPassing, placesSeen, heldSeen, holdsSeen, waitsSeen}

@@ -1,15 +1,12 @@
--- Request Q-14: "Demands 2 and 3 are read through the images": a history of calls, and what is counted of what C sees.
--- Defines: Lent, lentRecords, roomy, seenAlong, lastImage, isAccepted, countOf, overSeen, actionsSeen, ordersSeen, callsSeen,
--- lossesSeen.
-use Prim.Native.Nat.{ℕ, _+_}
+-- Request Q-14: "Demands 2 and 3 are read through the images": a history of calls, and what C sees of it.
+-- Defines: Lent, lentRecords, roomy, seenAlong, lastImage, isAccepted.
+use Prim.Native.Nat.{ℕ}
 use mathlib.Core.Bool.{Bool, true, false, _&&_}
 use mathlib.Core.List.{List, [], _∷_, map}
 use lib.Dec.{leb}
 use lib.IntN.{ℤ, pos, negsuc}
 use lib.ListN.{length}
 use Rattle.unit.specs.OnRecords.{actionRoom}
-use Rattle.history.specs.Histories.{isOrder, isCall, isLoss}
-use Rattle.wire.specs.Bytes.{asBit}
 use Rattle.firmware.specs.Calls.{Seen, seenAfter}
 
 -- what C lends for one call beside the image: a record and an action buffer
@@ -38,31 +35,7 @@ unfoldable pub lastImage : List ℕ → List Seen → List ℕ
 lastImage image [] = image
 lastImage image (seen ∷ rest) = lastImage (seen .image) rest
 
--- a number that is not minus a refusal, and how many actions it says
+-- a number that is not minus a refusal
 abbrev pub isAccepted : ℤ → Bool
 isAccepted (pos n) = true
 isAccepted (negsuc n) = false
-
-abbrev pub countOf : ℤ → ℕ
-countOf (pos n) = n
-countOf (negsuc n) = 0
-
--- the sum over the calls of a history, of what the record and what C sees after it count for
-unfoldable pub overSeen : (List ℕ → Seen → ℕ) → List (List ℕ) → List Seen → ℕ
-overSeen f [] seen = 0
-overSeen f (bytes ∷ history) [] = 0
-overSeen f (bytes ∷ history) (x ∷ seen) = f bytes x + overSeen f history seen
-
--- the actions, by the numbers returned
-abbrev pub actionsSeen : List (List ℕ) → List Seen → ℕ
-actionsSeen = overSeen (λ bytes x. countOf (x .number))
-
--- the accepted orders, calls 38 and losses
-abbrev pub ordersSeen : List (List ℕ) → List Seen → ℕ
-ordersSeen = overSeen (λ bytes x. asBit (isOrder bytes && isAccepted (x .number)))
-
-abbrev pub callsSeen : List (List ℕ) → List Seen → ℕ
-callsSeen = overSeen (λ bytes x. asBit (isCall bytes && isAccepted (x .number)))
-
-abbrev pub lossesSeen : List (List ℕ) → List Seen → ℕ
-lossesSeen = overSeen (λ bytes x. asBit (isLoss bytes && isAccepted (x .number)))

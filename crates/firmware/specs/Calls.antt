@@ -14,8 +14,7 @@ use Rattle.image.specs.Images.{imageA2, readA2}
 
 -- "Refusals: .. those of reading an A2 image (A1 gives 2), then the step's": a step of the state that was read
 abbrev pub steppedFrom : Started → List ℕ → ℕ → Outcome
-steppedFrom held bytes room =
-    cond (eqb (held .code) accepted) (onRecord (held .state) bytes room) (refused (held .code) (held .state))
+steppedFrom held bytes room = cond (eqb (held .code) accepted) (onRecord (held .state) bytes room) (refused (held .code) (held .state))
 
 -- "It equals reading the image, one step and writing it"; "10 for the action buffer, then ..": room is its length
 unfoldable pub onImage : List ℕ → List ℕ → ℕ → Outcome

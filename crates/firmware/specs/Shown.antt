@@ -8,7 +8,7 @@ use lib.ListN.{replicate}
 use Rattle.history.specs.Reaching.{order5, up5, lost5, timeout5, call5}
 use Rattle.firmware.specs.Along.{Lent, seenAlong, lastImage}
 use Rattle.firmware.specs.AlongWords.{lentWith}
-use Rattle.firmware.specs.Starts.{firstImage}
+use Rattle.firmware.specs.AlongWords.{firstImage}
 
 -- the image of the cold start
 abbrev pub shownStart : ℕ → List ℕ

@@ -15,13 +15,13 @@ use Rattle.record.specs.declared.event.Event.{Event}
 use Rattle.record.specs.declared.event.Reading.{Reading}
 use Rattle.record.specs.declared.event.Reading.the-variants.{Meant, Refused}
 use Rattle.unit.specs.Steps.{Outcome}
-use Rattle.unit.specs.OnRecords.{trace, actionRoom, onRecord}
+use Rattle.unit.specs.OnRecords.{actionRoom, onRecord}
 use Rattle.unit.specs.declared.state.State.{State}
 use Rattle.place.specs.declared.limits.Limits.{Limits}
 use Rattle.unit.proofs.Effects.{onRecord-limits}
 use Rattle.unit.proofs.Shapes.{on-record}
 use Rattle.unit.specs.Kept.{count}
-use Rattle.history.specs.Histories.{endOf, sumOver, after, summed}
+use Rattle.history.specs.Histories.{after, summed}
 use Rattle.unit.proofs.Balances.{Sense, Balance, level, followed}
 use Rattle.unit.proofs.StepAccounts.{total, brought, Account, refused-account, step-account}
 use Rattle.unit.proofs.Scales.{Scale, Balanced, counted}
@@ -53,7 +53,7 @@ module _ (m : Sense) (l : Limits) (σ : Scale) (balanced : Balanced m l σ) (min
       → Balance m
       (summed (λ s bytes o. count (counted σ mine) (o .actions)) s history + total σ mine (after s history .places))
       (total σ mine (s .places) + summed (received σ mine) s history)
-  unfolding after summed endOf sumOver trace
+  unfolding after summed
   history-account s same [] = level m _ _ (omega arith)
   history-account s same (bytes ∷ history) =
       let o = onRecord s bytes actionRoom in

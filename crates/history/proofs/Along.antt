@@ -9,13 +9,13 @@ use Rattle.record.specs.declared.partner.Partner.{Partner}
 use Rattle.wire.proofs.Tests.{cond-holds}
 use Rattle.place.specs.declared.limits.Limits.{Limits}
 use Rattle.unit.specs.States.{limitsOk, sound, noLimits, cold, coldStart}
-use Rattle.unit.specs.OnRecords.{trace, actionRoom, onRecord}
+use Rattle.unit.specs.OnRecords.{actionRoom, onRecord}
 use Rattle.unit.specs.declared.state.State.{State}
 use Rattle.unit.specs.declared.start.Started.{Started}
 use Rattle.wire.specs.Sums.{sum}
 use Rattle.unit.proofs.Effects.{onRecord-limits}
 use Rattle.unit.proofs.Sound.{onRecord-sound}
-use Rattle.history.specs.Histories.{endOf, after}
+use Rattle.history.specs.Histories.{after}
 use Rattle.unit.proofs.Scales.{Scale}
 use Rattle.unit.proofs.StepAccounts.{total}
 
@@ -33,13 +33,13 @@ pub after-sound : (s : State)
     → sound s ≡ true
     → (history : List (List ℕ))
     → sound (after s history) ≡ true
-unfolding after endOf trace
+unfolding after
 after-sound s ok [] = ok
 after-sound s ok (bytes ∷ history) =
     after-sound (onRecord s bytes actionRoom .state) (onRecord-sound s bytes actionRoom ok) history
 
 -- and has its limits
 pub after-limits : (s : State) (history : List (List ℕ)) → after s history .limits ≡ s .limits
-unfolding after endOf trace
+unfolding after
 after-limits s [] = refl
 after-limits s (bytes ∷ history) = after-limits (onRecord s bytes actionRoom .state) history ∙ onRecord-limits s bytes actionRoom

@@ -31,7 +31,7 @@ use Rattle.unit.specs.declared.last.Last.the-variants.{Known}
 use Rattle.unit.specs.declared.state.State.{State}
 use Rattle.unit.proofs.Rows.{_▹_}
 use Rattle.unit.proofs.Starts.{cold-sound}
-use Rattle.history.specs.Histories.{endOf, after, silent, timeouts, holdsPlace, waitingPhase, waits}
+use Rattle.history.specs.Histories.{after, silent, timeouts, holdsPlace, waitingPhase, waits}
 use Rattle.history.specs.Reaching.{rbc5, timeout5, repeated, oneToNine}
 use Rattle.history.specs.Sums.{started}
 use Rattle.unit.specs.States.{oneToTwo}
@@ -368,19 +368,19 @@ module _ (n : ℕ) (some-try : 1 ≤ n) (most : n ≤ mostTries) where
 pub among-all-codes :
     map (λ o. o .code) (trace (after (started 3) (bothEnding ++ amongAll)) amongAll)
     ≡ replicate 21 0 ++ (5 ∷ 0 ∷ 0 ∷ 6 ∷ 6 ∷ 6 ∷ 6 ∷ replicate 10 0) ++ (1 ∷ 1 ∷ 2 ∷ 3 ∷ 3 ∷ 3 ∷ [])
-unfolding reading turn first seek placesOk sound cold coldStart closed closingActions step onRecord after endOf trace some recalled
+unfolding reading turn first seek placesOk sound cold coldStart closed closingActions step onRecord after trace some recalled
 among-all-codes = refl
 
 -- meaning
 pub among-orders-codes :
     map (λ o. o .code) (trace (after (started 3) (bothContacting ++ amongOrders)) amongOrders)
     ≡ replicate 21 0 ++ (5 ∷ 0 ∷ 0 ∷ 6 ∷ 6 ∷ 6 ∷ 6 ∷ replicate 4 0) ++ (1 ∷ 1 ∷ 2 ∷ 3 ∷ 3 ∷ 3 ∷ [])
-unfolding reading turn first seek placesOk sound cold coldStart closed closingActions step onRecord after endOf trace some recalled
+unfolding reading turn first seek placesOk sound cold coldStart closed closingActions step onRecord after trace some recalled
 among-orders-codes = refl
 
 -- meaning
 pub among-others-codes :
     map (λ o. o .code) (trace (after (started 3) (bothLost ++ amongOthers)) amongOthers)
     ≡ replicate 21 0 ++ (5 ∷ 0 ∷ 0 ∷ 6 ∷ 6 ∷ 6 ∷ 6 ∷ []) ++ (1 ∷ 1 ∷ 2 ∷ 3 ∷ 3 ∷ 3 ∷ [])
-unfolding reading turn first seek placesOk sound cold coldStart closed closingActions step onRecord after endOf trace some recalled
+unfolding reading turn first seek placesOk sound cold coldStart closed closingActions step onRecord after trace some recalled
 among-others-codes = refl

@@ -19,14 +19,15 @@ use Rattle.record.specs.declared.event.Reading.{Reading}
 use Rattle.record.specs.declared.event.Reading.the-variants.{Meant, Refused}
 use Rattle.place.specs.declared.phase.Phase.{Phase}
 use Rattle.unit.specs.Steps.{Outcome}
-use Rattle.unit.specs.OnRecords.{trace, actionRoom, onRecord}
+use Rattle.unit.specs.OnRecords.{actionRoom, onRecord}
 use Rattle.place.specs.declared.limits.Limits.{Limits}
 use Rattle.unit.specs.Lasts.{meant}
 use Rattle.unit.specs.declared.last.Last.{Last}
 use Rattle.unit.specs.declared.state.State.{State}
 use Rattle.unit.specs.declared.answer.Action.{Action}
 use Rattle.unit.specs.Kept.{count}
-use Rattle.history.specs.Histories.{sumOver, after, summed, isOrder, isCall, isLoss, acceptedAs, eventNames, ofReading}
+use Rattle.history.specs.Histories.{after, summed, isOrder, isCall, isLoss, acceptedAs}
+use Rattle.history.proofs.Concerned.{namedBy}
 use Rattle.wire.specs.Bytes.{asBit}
 use Rattle.unit.proofs.Counts.{nothing, count-same}
 use Rattle.unit.proofs.Balances.{Sense, Balance}
@@ -40,7 +41,7 @@ pub summed-same : (f g : State → List ℕ → Outcome → ℕ)
     → ((s : State) (bytes : List ℕ) → f s bytes (onRecord s bytes actionRoom) ≡ g s bytes (onRecord s bytes actionRoom))
     → (s : State) (history : List (List ℕ))
     → summed f s history ≡ summed g s history
-unfolding summed sumOver trace
+unfolding summed
 summed-same f g same s [] = refl
 summed-same f g same s (bytes ∷ history) =
     let o = onRecord s bytes actionRoom in
@@ -52,7 +53,7 @@ summed-same f g same s (bytes ∷ history) =
 pub summed-rates : (x y z : ℕ) (f g h : State → List ℕ → Outcome → ℕ) (s : State) (history : List (List ℕ))
     → summed (λ s bytes o. x * f s bytes o + (y * g s bytes o + z * h s bytes o)) s history
     ≡ x * summed f s history + (y * summed g s history + z * summed h s history)
-unfolding summed sumOver trace
+unfolding summed
 summed-rates x y z f g h s [] = omega arith
 summed-rates x y z f g h s (bytes ∷ history) =
     let rest = summed-rates x y z f g h (onRecord s bytes actionRoom .state) history in
@@ -92,7 +93,7 @@ whose-any last (Meant (Call p)) = refl
 whose-any last (Meant (Named p e)) = refl
 
 -- those that name it, where one partner is
-pub whose-one : (p : Partner) (last : Last) (r : Reading) → Whose (samePartner p) last (ofReading (eventNames p last) r) r
+pub whose-one : (p : Partner) (last : Last) (r : Reading) → Whose (samePartner p) last (namedBy p last r) r
 whose-one p last (Refused r) = tt
 whose-one p last (Meant (Level level manual)) = tt
 whose-one p last (Meant (Mission mission)) = tt

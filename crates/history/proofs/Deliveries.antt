@@ -10,6 +10,7 @@ use Prim.Native.Nat.{_+_}
 use lib.Dec.{lit≤}
 use lib.ListN.{getD}
 use Rattle.wire.specs.Bytes.{byte}
+use Rattle.wire.specs.Sums.{sum}
 use Rattle.wire.proofs.Tests.{All}
 use Rattle.record.specs.Partners.{samePartner}
 use Rattle.record.specs.Records.{reading}
@@ -23,7 +24,7 @@ use Rattle.place.specs.Places.{vacant, isFree, heldPhase}
 use Rattle.place.specs.declared.phase.Phase.the-variants.{Contacting, Open, Ending}
 use Rattle.unit.proofs.Rows.{_▹_}
 use Rattle.history.specs.Histories.{after}
-use Rattle.history.specs.EitherOrder.{Delivered, versions, answerOf, next, alone, Alike}
+use Rattle.history.specs.EitherOrder.{Delivered, answerOf, next, alone, Alike}
 use Rattle.history.specs.Interleaved.{recordsOf}
 use Rattle.history.specs.Permuted.{DifferAll, Different}
 use Rattle.history.specs.Permuted.{Permuted}
@@ -68,7 +69,7 @@ pub either-same-met :
     (next (next working versionOne) dropFour ≡ next (next working dropFour) versionOne)
     × (codeAndActions (alone working versionOne) ≡ 0 ∷ 159 ∷ [])
     × (codeAndActions (alone working dropFour) ≡ 0 ∷ 156 ∷ [])
-unfolding working versionOne dropFour versions
+unfolding working versionOne dropFour sum
 either-same-met = (either-same working working-sound versionOne dropFour refl (lit≤ tt), refl, refl)
 
 -- instance
@@ -105,7 +106,7 @@ oneEach-permuted = permuted-insert versionOne (timeoutTwo ∷ upThree ∷ dropFo
 pub row-same-met :
     (after working (recordsOf oneEach) ≡ after working (recordsOf oneEachLater))
     × (map heldPhase (after working (recordsOf oneEach) .places) ≡ Open ∷ Contacting 2 ∷ Contacting 1 ∷ Ending 1 ∷ [])
-unfolding working oneEach versions
+unfolding working oneEach sum
 row-same-met = (row-same working working-sound oneEach-permuted oneEach-different (lit≤ tt), refl)
 
 -- messages 32 of RBC 1 and RBC 2 and the up of RIU 3, RBC 1 first or last: the same but for the last known RBC
@@ -225,7 +226,7 @@ pub interleaved-same-met :
     × (heldPhase (getD (after working (recordsOf inTurn) .places) 2 vacant) ≡ Contacting 2)
     × (map codeAndActions (answersTo rbcOne working inTurn)
     ≡ (0 ∷ 159 ∷ []) ∷ (7 ∷ []) ∷ (0 ∷ 21 ∷ []) ∷ (0 ∷ []) ∷ [])
-unfolding working inTurn ofPartner versions answersTo
+unfolding working inTurn ofPartner sum answersTo
 interleaved-same-met =
     (interleaved-same working working-sound inTurn oneByOne turns-interleaved rbcOne refl, refl, refl, refl, refl, refl)
 

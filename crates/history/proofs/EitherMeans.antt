@@ -13,6 +13,7 @@ use lib.Dec.{eqb, leb, lit≤}
 use lib.ListN.{length, getD}
 use borrow.Author.Tests.{eqb-true, eq-eqb, leb-true}
 use Rattle.wire.specs.Bytes.{byte}
+use Rattle.wire.specs.Sums.{sum}
 use Rattle.wire.specs.Refusals.{wrongLength, unknownKind, outOfRange}
 use Rattle.wire.proofs.Tests.{and-left, and-right, and-both, cond-case, cond-holds, true-false}
 use Rattle.record.specs.Partners.{samePartner, rbc, namedOk}
@@ -38,7 +39,7 @@ use Rattle.unit.specs.declared.last.Last.{Last}
 use Rattle.unit.specs.declared.state.State.{State}
 use Rattle.unit.specs.declared.answer.Action.{Action}
 use Rattle.unit.proofs.Rows.{_▹_, Numbered, numbered-at}
-use Rattle.history.specs.Histories.{endOf, after}
+use Rattle.history.specs.Histories.{after}
 use Rattle.history.specs.EitherOrder.{Delivered, Differ, versions, Compared}
 use Rattle.history.specs.Permuted.{DifferAll, Different}
 use Rattle.history.specs.EitherOrder.{Reply, answerOf, next, alone, Alike}
@@ -295,7 +296,7 @@ pub versions-counts :
     × ((x : Delivered) (xs : List Delivered)
     → ((byte (x .bytes) 0 ≡ 11) × (byte (x .bytes) 5 ≡ 32) → versions (x ∷ xs) ≡ suc (versions xs))
     × (((byte (x .bytes) 0 ≡ 11) × (byte (x .bytes) 5 ≡ 32) → ⊥) → versions (x ∷ xs) ≡ versions xs))
-unfolding versions
+unfolding sum
 versions-counts = (refl, (λ x xs. by xs (isVersion (x .event)) (isVersion-means x)))
   where
     by : {P : Type 0} (xs : List Delivered) (b : Bool)
@@ -409,7 +410,7 @@ some-version : (xs : List Delivered) (d : Delivered) (i : ℕ)
     → i < length xs
     → isVersion (getD xs i d .event) ≡ true
     → 1 ≤ versions xs
-unfolding versions
+unfolding sum
 some-version [] d i below is = absurd (omega arith)
 some-version (x ∷ xs) d zero below is = let version = ap asBit is in omega arith
 some-version (x ∷ xs) d (suc i) below is = let later = some-version xs d i (omega arith) is in omega arith
@@ -417,7 +418,7 @@ some-version (x ∷ xs) d (suc i) below is = let later = some-version xs d i (om
 no-version : (xs : List Delivered) (d : Delivered)
     → ((i : ℕ) → i < length xs → isVersion (getD xs i d .event) ≡ true → ⊥)
     → versions xs ≡ 0
-unfolding versions
+unfolding sum
 no-version [] d none = refl
 no-version (x ∷ xs) d none = by (isVersion (x .event)) refl (no-version xs d (λ i below. none (suc i) (omega arith)))
   where
@@ -435,7 +436,7 @@ pub compared-means : (xs : List Delivered) (d : Delivered)
     → isVersion (getD xs i d .event) ≡ true
     → isVersion (getD xs j d .event) ≡ true
     → ⊥)
-unfolding versions
+unfolding sum
 compared-means xs d = (to xs, from xs)
   where
     to : (xs : List Delivered)
@@ -532,7 +533,7 @@ answerOf-means o u = (
 -- the state after a history of one record, and the answer to it
 -- meaning
 pub next-after : (s : State) (x : Delivered) → next s x ≡ after s (x .bytes ∷ [])
-unfolding after endOf trace
+unfolding after
 next-after s x = refl
 
 -- meaning

@@ -15,6 +15,7 @@ use Rattle.unit.specs.States.{sound}
 use Rattle.unit.specs.Steps.{step}
 use Rattle.unit.specs.Kept.{count, isVersion}
 use Rattle.wire.specs.Bytes.{asBit}
+use Rattle.wire.specs.Sums.{sum}
 use Rattle.unit.specs.OnRecords.{trace, actionRoom, onRecord}
 use Rattle.unit.specs.declared.last.Last.{Last}
 use Rattle.unit.specs.declared.last.Last.the-variants.{Known}
@@ -24,7 +25,7 @@ use Rattle.unit.proofs.Apart.{quiet-last, other-sym, named-recalled}
 use Rattle.unit.proofs.Recalled.{recalled-none, onRecord-last}
 use Rattle.unit.proofs.Effects.{onRecord-step}
 use Rattle.unit.proofs.Sound.{onRecord-sound}
-use Rattle.history.specs.Histories.{endOf, after}
+use Rattle.history.specs.Histories.{after}
 use Rattle.history.specs.EitherOrder.{Delivered, Differ, versions, Compared}
 use Rattle.history.specs.Interleaved.{recordsOf}
 use Rattle.history.specs.Permuted.{DifferAll, Different}
@@ -116,7 +117,7 @@ module _ (s : State) (ok : sound s ≡ true) (x y : Delivered) (other : Differ x
   -- where not both are message 32, the last known RBC is compared too
   -- promise
   pub either-same : Compared (x ∷ y ∷ []) → next (next s x) y ≡ next (next s y) x
-  unfolding versions
+  unfolding sum
   either-same few =
       same-state (next (next s x) y) (next (next s y) x) (either-alike s ok x y other)
       (by (isVersion (x .event)) refl (not-both (isVersion (x .event)) (isVersion (y .event)) 0 few))
@@ -208,7 +209,7 @@ pub alike-after : (s t : State)
     → Alike s t
     → (xs : List Delivered)
     → Alike (after s (recordsOf xs)) (after t (recordsOf xs))
-unfolding after endOf trace
+unfolding after
 alike-after s t ok fine alike [] = alike
 alike-after s t ok fine alike (x ∷ xs) =
     alike-after (next s x) (next t x) (next-sound s ok x) (next-sound t fine x) (alike-next s t ok fine alike x) xs
@@ -230,7 +231,7 @@ different-permuted (swaps x y xs) different =
 different-permuted (joins p q) different = different-permuted q (different-permuted p different)
 
 versions-permuted : {xs ys : List Delivered} → Permuted xs ys → versions ys ≡ versions xs
-unfolding versions
+unfolding sum
 versions-permuted empty = refl
 versions-permuted (keeps x p) = ap (_+_ (asBit (isVersion (x .event)))) (versions-permuted p)
 versions-permuted (swaps x y xs) = omega arith
@@ -247,7 +248,7 @@ pub row-alike : (s : State)
     → Permuted xs ys
     → Different xs
     → Alike (after s (recordsOf xs)) (after s (recordsOf ys))
-unfolding after endOf trace Different DifferAll
+unfolding after Different DifferAll
 row-alike s ok empty different = (refl, refl, refl, refl)
 row-alike s ok (keeps x p) different = row-alike (next s x) (next-sound s ok x) p (different .1)
 row-alike s ok (swaps x y xs) different =
@@ -269,7 +270,7 @@ pub row-same : (s : State)
     → Different xs
     → Compared xs
     → after s (recordsOf xs) ≡ after s (recordsOf ys)
-unfolding after endOf trace Different DifferAll versions
+unfolding after Different DifferAll sum
 row-same s ok empty different few = refl
 row-same s ok (keeps x p) different few = row-same (next s x) (next-sound s ok x) p (different .1) (omega arith)
 row-same s ok (swaps x y xs) different few =

@@ -13,10 +13,11 @@ use Rattle.wire.proofs.Tests.{true-false}
 use Rattle.unit.specs.States.{sound}
 use Rattle.unit.specs.Kept.{isVersion}
 use Rattle.wire.specs.Bytes.{asBit}
+use Rattle.wire.specs.Sums.{sum}
 use Rattle.unit.specs.OnRecords.{trace, actionRoom, onRecord}
 use Rattle.unit.specs.declared.state.State.{State}
 use Rattle.unit.proofs.Apart.{Seen, named-follows, seen-here, other-sym}
-use Rattle.history.specs.Histories.{endOf, after}
+use Rattle.history.specs.Histories.{after}
 use Rattle.history.specs.EitherOrder.{Delivered, Differ, versions, answerOf, next, alone, Alike}
 use Rattle.history.specs.Interleaved.{recordsOf}
 use Rattle.history.specs.Permuted.{DifferAll}
@@ -218,7 +219,7 @@ first-alike : (s : State)
     → {x : Delivered} {ys zs : List Delivered}
     → First x ys zs
     → Alike (after (next s x) (recordsOf zs)) (after s (recordsOf ys))
-unfolding after endOf trace
+unfolding after
 first-alike s ok {x} (at y ys same) =
     let moved = ap (λ bytes. after (onRecord s bytes actionRoom .state) (recordsOf ys)) same in
     (ap (λ t. t .limits) moved, ap (λ t. t .train) moved, ap (λ t. t .marks) moved, ap (λ t. t .places) moved)
@@ -236,7 +237,7 @@ pub interleaved-alike : (s : State)
     → (xs ys : List Delivered)
     → Interleaved xs ys
     → Alike (after s (recordsOf xs)) (after s (recordsOf ys))
-unfolding after endOf trace
+unfolding after
 interleaved-alike s ok [] [] same = (refl, refl, refl, refl)
 interleaved-alike s ok [] (y ∷ ys) same = none-left y ys same
 interleaved-alike s ok (x ∷ xs) ys same =
@@ -247,7 +248,7 @@ interleaved-alike s ok (x ∷ xs) ys same =
 
 -- the same records have as many messages 32
 bytes-versions : (xs ys : List Delivered) → recordsOf xs ≡ recordsOf ys → versions xs ≡ versions ys
-unfolding versions
+unfolding sum
 bytes-versions [] [] same = refl
 bytes-versions [] (y ∷ ys) same = absurd (let z : _≡_ {A = ℕ} 0 1 = cc in omega arith)
 bytes-versions (x ∷ xs) [] same = absurd (let z : _≡_ {A = ℕ} 0 1 = cc in omega arith)
@@ -255,14 +256,14 @@ bytes-versions (x ∷ xs) (y ∷ ys) same =
     ap₂ _+_ (ap (λ e. asBit (isVersion e)) (bytes-event x y (cc))) (bytes-versions xs ys (cc))
 
 first-versions : {x : Delivered} {ys zs : List Delivered} → First x ys zs → versions (x ∷ zs) ≡ versions ys
-unfolding versions
+unfolding sum
 first-versions {x} (at y ys same) = ap (λ e. asBit (isVersion e) + versions ys) (bytes-event x y same)
 first-versions {x} (past y {ys} {zs} other first) =
     let later = first-versions first in
     omega arith
 
 interleaved-versions : (xs ys : List Delivered) → Interleaved xs ys → versions xs ≡ versions ys
-unfolding versions
+unfolding sum
 interleaved-versions [] [] same = refl
 interleaved-versions [] (y ∷ ys) same = none-left y ys same
 interleaved-versions (x ∷ xs) ys same =
@@ -271,7 +272,7 @@ interleaved-versions (x ∷ xs) ys same =
 
 -- a partner has no more messages 32 than the row
 own-versions : (p : Partner) (xs : List Delivered) → versions (ofPartner p xs) ≤ versions xs
-unfolding versions ofPartner
+unfolding sum ofPartner
 own-versions p [] = omega arith
 own-versions p (x ∷ xs) = by (samePartner p (x .partner)) (own-versions p xs)
   where
@@ -285,7 +286,7 @@ own-versions p (x ∷ xs) = by (samePartner p (x .partner)) (own-versions p xs)
 pub versions-own : (p : Partner) (x : Delivered) (xs : List Delivered)
     → versions (ofPartner p (x ∷ xs)) ≡ versions (x ∷ xs)
     → (isVersion (x .event) ≡ true → samePartner p (x .partner) ≡ true) × (versions (ofPartner p xs) ≡ versions xs)
-unfolding versions ofPartner
+unfolding sum ofPartner
 versions-own p x xs all = by (samePartner p (x .partner)) (isVersion (x .event)) refl (own-versions p xs) all
   where
     by : (b c : Bool)
@@ -303,7 +304,7 @@ not-two : (p : Partner) (x y : Delivered)
     → (isVersion (x .event) ≡ true → samePartner p (x .partner) ≡ true)
     → (isVersion (y .event) ≡ true → samePartner p (y .partner) ≡ true)
     → versions (x ∷ y ∷ []) ≤ 1
-unfolding versions
+unfolding sum
 not-two p x y other mine theirs = by (isVersion (x .event)) (isVersion (y .event)) mine theirs
   where
     by : (a b : Bool)
@@ -326,7 +327,7 @@ first-same : (s : State)
     → (isVersion (x .event) ≡ true → samePartner p (x .partner) ≡ true)
     → versions (ofPartner p ys) ≡ versions ys
     → after (next s x) (recordsOf zs) ≡ after s (recordsOf ys)
-unfolding after endOf trace
+unfolding after
 first-same s ok p {x} (at y ys same) mine all = ap (λ bytes. after (onRecord s bytes actionRoom .state) (recordsOf ys)) same
 first-same s ok p {x} (past y {ys} {zs} other first) mine all =
     let theirs = versions-own p y ys all in
@@ -342,7 +343,7 @@ pub interleaved-same : (s : State)
     → (p : Partner)
     → versions (ofPartner p xs) ≡ versions xs
     → after s (recordsOf xs) ≡ after s (recordsOf ys)
-unfolding after endOf trace
+unfolding after
 interleaved-same s ok [] [] same p all = refl
 interleaved-same s ok [] (y ∷ ys) same p all = none-left y ys same
 interleaved-same s ok (x ∷ xs) ys same p all =

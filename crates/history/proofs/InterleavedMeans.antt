@@ -10,6 +10,7 @@ use Prim.Native.Nat.{ℕ, zero, suc, _+_, _<_}
 use native.Mathlib.Omega.{arith}
 use lib.ListN.{length, getD}
 use Rattle.wire.specs.Bytes.{byte}
+use Rattle.wire.specs.Sums.{sum}
 use Rattle.wire.proofs.Tests.{true-false}
 use Rattle.record.specs.Partners.{samePartner}
 use Rattle.record.specs.declared.partner.Partner.{Partner}
@@ -18,7 +19,7 @@ use Rattle.unit.specs.Kept.{isVersion}
 use Rattle.wire.specs.Bytes.{asBit}
 use Rattle.unit.specs.OnRecords.{trace}
 use Rattle.unit.specs.declared.state.State.{State}
-use Rattle.history.specs.Histories.{endOf, after}
+use Rattle.history.specs.Histories.{after}
 use Rattle.history.specs.EitherOrder.{Delivered, Differ, versions, answerOf, next, alone}
 use Rattle.history.specs.Interleaved.{recordsOf}
 use Rattle.history.specs.Permuted.{DifferAll, Different}
@@ -114,7 +115,7 @@ module _ (p : Partner) where
   -- meaning
   pub answersTo-append : (s : State) (xs ys : List Delivered)
       → answersTo p s (xs ++ ys) ≡ answersTo p s xs ++ answersTo p (after s (recordsOf xs)) ys
-  unfolding answersTo after endOf trace
+  unfolding answersTo after
   answersTo-append s [] ys = refl
   answersTo-append s (x ∷ xs) ys =
       let own = cond (samePartner p (x .partner)) (alone s x ∷ []) [] in
@@ -177,7 +178,7 @@ interleaved-swaps x y xs ys other p =
 pub versions-own-means : (p : Partner) (xs : List Delivered) (d : Delivered)
     → (versions (ofPartner p xs) ≡ versions xs)
     ↔ ((i : ℕ) → i < length xs → isVersion (getD xs i d .event) ≡ true → samePartner p (getD xs i d .partner) ≡ true)
-unfolding versions ofPartner
+unfolding sum ofPartner
 versions-own-means p xs d = (to xs, from xs)
   where
     to : (xs : List Delivered)

@@ -14,7 +14,7 @@ use Rattle.place.specs.Places.{vacant, partnerOf}
 use Rattle.place.specs.declared.limits.Limits.{Limits}
 use Rattle.unit.specs.Lasts.{toRbc, recalledBy, recalled}
 use Rattle.unit.specs.States.{placeCount, limitsOk, sound, noLimits, cold, coldStart}
-use Rattle.unit.specs.OnRecords.{trace, actionRoom, onRecord}
+use Rattle.unit.specs.OnRecords.{actionRoom, onRecord}
 use Rattle.unit.specs.Kept.{count}
 use Rattle.unit.specs.declared.last.Last.the-variants.{Unknown, Known}
 use Rattle.unit.specs.declared.start.Started.{Started}
@@ -25,12 +25,12 @@ use Rattle.unit.proofs.Again.Meant.{sound-places, sound-last}
 use Rattle.unit.proofs.Recalled.{recalled-append, recalled-none, onRecord-last, onRecord-named}
 use Rattle.unit.proofs.Sound.{onRecord-sound}
 use Rattle.unit.proofs.Starts.{cold-sound}
-use Rattle.history.specs.Histories.{endOf, after, sentBy, sent}
+use Rattle.history.specs.Histories.{after, sent}
 use Rattle.history.proofs.Along.{after-sound}
 
 -- what is known after a history is what its actions left
 recalled-along : (s : State) (history : List (List ℕ)) → after s history .last ≡ recalled (s .last) (sent s history)
-unfolding after endOf trace sent sentBy recalled
+unfolding after sent recalled
 recalled-along s [] = refl
 recalled-along s (bytes ∷ history) =
     let o = onRecord s bytes actionRoom in
@@ -97,7 +97,7 @@ named-along : (s : State)
     → sound s ≡ true
     → (history : List (List ℕ))
     → count (λ a. reserved (a .partner)) (sent s history) ≡ 0
-unfolding sent sentBy trace count
+unfolding sent count
 named-along s ok [] = refl
 named-along s ok (bytes ∷ history) =
     let o = onRecord s bytes actionRoom in

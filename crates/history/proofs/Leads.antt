@@ -7,21 +7,21 @@ use Prim.Native.Nat.{ℕ, zero, suc, _+_, _*_}
 use native.Mathlib.Omega.{arith}
 use lib.ListN.{length}
 use Rattle.unit.specs.Steps.{Outcome}
-use Rattle.unit.specs.OnRecords.{trace, actionRoom, onRecord}
+use Rattle.unit.specs.OnRecords.{actionRoom, onRecord}
 use Rattle.unit.specs.declared.state.State.{State}
-use Rattle.history.specs.Histories.{endOf, sumOver, after, summed, orders, calls, losses, actions}
+use Rattle.history.specs.Histories.{after, summed, orders, calls, losses, actions}
 use Rattle.history.specs.Histories.{isOrder, isCall, isLoss, acceptedAs}
 use Rattle.history.specs.Reaching.{repeated}
 
 -- a history after another
 pub after-append : (s : State) (xs ys : List (List ℕ)) → after s (xs ++ ys) ≡ after (after s xs) ys
-unfolding after endOf trace
+unfolding after
 after-append s [] ys = refl
 after-append s (bytes ∷ xs) ys = after-append (onRecord s bytes actionRoom .state) xs ys
 
 pub summed-append : (f : State → List ℕ → Outcome → ℕ) (s : State) (xs ys : List (List ℕ))
     → summed f s (xs ++ ys) ≡ summed f s xs + summed f (after s xs) ys
-unfolding summed after endOf sumOver trace
+unfolding summed after
 summed-append f s [] ys = omega arith
 summed-append f s (bytes ∷ xs) ys =
     let rest = summed-append f (onRecord s bytes actionRoom .state) xs ys in
@@ -37,7 +37,7 @@ pub record Leads (s : State) (history : List (List ℕ)) (t : State) (a b c k : 
 
 -- no record
 pub stays : (s : State) → Leads s [] s 0 0 0 0
-unfolding after summed endOf sumOver trace
+unfolding after summed
 stays s = record { ends = refl; ordered = refl; called = refl; lost = refl; acted = refl }
 
 -- one record, then the rest
@@ -49,7 +49,7 @@ pub begins : (s : State) (bytes : List ℕ) (o : Outcome) (history : List (List 
     (acceptedAs (λ s. isCall) s bytes o + b)
     (acceptedAs (λ s. isLoss) s bytes o + c)
     (length (o .actions) + k)
-unfolding after summed endOf sumOver trace
+unfolding after summed
 begins s bytes o history t a b c k e rest =
     record {
       ends = rw e (rest .ends);

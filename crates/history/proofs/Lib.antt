@@ -1,7 +1,9 @@
 pub mod Accounts
 pub mod Bytes
+pub mod Concerned
 pub mod Naming
 pub mod Meanings
+pub mod Walked
 pub mod Counted
 pub mod Along
 pub mod Falling

@@ -2,7 +2,7 @@
 -- What demand 3 counts, in the paper's numbers: a record by its bytes, an action by its number, a place by its phase, and how each count
 -- goes on with one record, one action or one place more.
 -- Proves: isOrder-means, isCall-means, isLoss-means, isRelease-means, releaseOf-means, waitingPhase-means, holdsPlace-means, waits-means,
--- placesHeld-more, heldTries-means, count-more, after-more, sumOver-short, orders-more, calls-more, losses-more, ordersOf-more,
+-- placesHeld-more, heldTries-means, count-more, after-more, orders-more, calls-more, losses-more, ordersOf-more,
 -- callsOf-more, lossesOf-more, actions-more, actionsOf-more, releases-more, releasesOf-more, sent-more, bounds-in-n,
 -- oneToNine-means, started-means, rbc5-means, heldTo-means, sumsOf-means.
 use mathlib.Core.Path.{_≡_, refl, sym, ap, _∙_}
@@ -30,17 +30,17 @@ use Rattle.place.specs.declared.place.Place.{Place}
 use Rattle.unit.specs.Kept.{count}
 use Rattle.unit.specs.Steps.{Outcome}
 use Rattle.unit.specs.States.{some, noLimits, cold, coldStart}
-use Rattle.unit.specs.OnRecords.{trace, onRecord}
+use Rattle.unit.specs.OnRecords.{onRecord}
 use Rattle.unit.specs.declared.start.Started.{Started}
 use Rattle.unit.specs.declared.state.State.{State}
 use Rattle.unit.specs.declared.answer.Action.{Action}
 use Rattle.history.specs.Counting.{OneMore}
-use Rattle.history.specs.Histories.{endOf, after, sumOver, summed, isOrder, isCall, isLoss, acceptedAs, orders, calls, losses}
+use Rattle.history.specs.Histories.{after, summed, isOrder, isCall, isLoss, acceptedAs, orders, calls, losses}
 use Rattle.history.specs.Histories.{actions, isRelease, releases, placesHeld, names, holdsPlace, waitingPhase, waitsAt, waits}
 use Rattle.history.specs.Histories.{releaseOf, releasesOf, actionsOf}
 use Rattle.history.specs.PerEvent.{heldTries}
 use Rattle.history.specs.PerEvent.{perOrder, perCall, perLoss, timeoutsToRelease}
-use Rattle.history.specs.Histories.{ordersOf, callsOf, lossesOf, sentBy, sent}
+use Rattle.history.specs.Histories.{ordersOf, callsOf, lossesOf, sent}
 use Rattle.history.specs.Histories.{silent, timeouts}
 use Rattle.history.specs.Reaching.{rbc5, oneToNine, HeldTo}
 use Rattle.history.specs.Sums.{started, sumsOf, counts}
@@ -207,7 +207,7 @@ pub after-more : (s : State)
     → (after s [] ≡ s)
     × ((history : List (List ℕ)) (bytes : List ℕ)
     → after s (history ++ (bytes ∷ [])) ≡ onRecord (after s history) bytes 20 .state)
-unfolding after endOf trace
+unfolding after
 after-more s = (refl, by s)
   where
     by : (s : State) (history : List (List ℕ)) (bytes : List ℕ)
@@ -215,24 +215,17 @@ after-more s = (refl, by s)
     by s [] bytes = refl
     by s (first ∷ history) bytes = by (onRecord s first 20 .state) history bytes
 
--- where no outcome is left nothing is counted
--- meaning
-pub sumOver-short : (f : State → List ℕ → Outcome → ℕ) (s : State) (history : List (List ℕ)) → sumOver f s history [] ≡ 0
-unfolding sumOver
-sumOver-short f s [] = refl
-sumOver-short f s (bytes ∷ history) = refl
-
 -- any sum goes on with what the record counts for
 summed-more : (f : State → List ℕ → Outcome → ℕ) (s : State) (history : List (List ℕ)) (bytes : List ℕ)
     → summed f s (history ++ (bytes ∷ [])) ≡ summed f s history + f (after s history) bytes (onRecord (after s history) bytes 20)
-unfolding summed sumOver after endOf trace
+unfolding summed after
 summed-more f s [] bytes = omega arith
 summed-more f s (first ∷ history) bytes =
     let rest = summed-more f (onRecord s first 20 .state) history bytes in
     omega arith
 
 summed-none : (f : State → List ℕ → Outcome → ℕ) (s : State) → summed f s [] ≡ 0
-unfolding summed sumOver trace
+unfolding summed
 summed-none f s = refl
 
 module _ (s : State) where
@@ -314,7 +307,7 @@ module _ (s : State) where
       (sent s [] ≡ [])
       × ((history : List (List ℕ)) (bytes : List ℕ)
       → sent s (history ++ (bytes ∷ [])) ≡ sent s history ++ onRecord (after s history) bytes 20 .actions)
-  unfolding sent sentBy after endOf trace
+  unfolding sent after
   sent-more = (refl, by s)
     where
       by : (s : State) (history : List (List ℕ)) (bytes : List ℕ)

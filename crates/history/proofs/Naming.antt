@@ -28,13 +28,14 @@ use Rattle.record.specs.declared.event.Reading.the-variants.{Meant, Refused}
 use Rattle.record.proofs.Partners.{same-refl, same-eq}
 use Rattle.record.proofs.Ranges.{reading-ok}
 use Rattle.unit.specs.Lasts.{meant}
-use Rattle.unit.specs.OnRecords.{trace, actionRoom, onRecord}
+use Rattle.unit.specs.OnRecords.{actionRoom, onRecord}
 use Rattle.unit.specs.declared.last.Last.{Last}
 use Rattle.unit.specs.declared.last.Last.the-variants.{Unknown}
 use Rattle.unit.specs.declared.state.State.{State}
 use Rattle.unit.proofs.Rows.{_▹_, Numbered, numbered-at}
 use Rattle.history.specs.Counting.{OneMore}
-use Rattle.history.specs.Histories.{endOf, after, eventNames, eventTimeout, ofReading, names, timeoutFor, silent, timeouts}
+use Rattle.history.specs.Histories.{after, names, timeoutFor, silent, timeouts}
+use Rattle.history.proofs.Concerned.{namedBy, timeoutBy}
 use Rattle.wire.specs.Bytes.{asBit}
 
 module _ (p : Partner) (last : Last) where
@@ -49,8 +50,8 @@ module _ (p : Partner) (last : Last) where
   -- what the bytes say of the event that they mean
   abbrev Says : List ℕ → Event → Type 0
   Says s e =
-      (eventNames p last e ≡ kindNames (byte s 0) (partnerIn s))
-      × (eventTimeout p e ≡ kindTimeout (byte s 0) (partnerIn s))
+      (namedBy p last (Meant e) ≡ kindNames (byte s 0) (partnerIn s))
+      × (timeoutBy p (Meant e) ≡ kindTimeout (byte s 0) (partnerIn s))
 
   abbrev RowSays : ℕ → KindRow → Type 0
   RowSays kind body = (s : List ℕ) → byte s 0 ≡ kind → body .ranges s ≡ true → Says s (body .means s)
@@ -58,8 +59,8 @@ module _ (p : Partner) (last : Last) where
   -- what a row's kind says is said of its records
   says-at : (kind : ℕ) (s : List ℕ) (e : Event)
       → byte s 0 ≡ kind
-      → eventNames p last e ≡ kindNames kind (partnerIn s)
-      → eventTimeout p e ≡ kindTimeout kind (partnerIn s)
+      → namedBy p last (Meant e) ≡ kindNames kind (partnerIn s)
+      → timeoutBy p (Meant e) ≡ kindTimeout kind (partnerIn s)
       → Says s e
   says-at kind s e is first second =
       (first ∙ ap (λ k. kindNames k (partnerIn s)) (sym is), second ∙ ap (λ k. kindTimeout k (partnerIn s)) (sym is))
@@ -175,7 +176,7 @@ names-means p s bytes = by (reading bytes) (reading-ok bytes) (reading-says p (s
     by : (r : Reading)
         → readingOk r ≡ true
         → SaysRead p (s .last) bytes r
-        → (ofReading (eventNames p (s .last)) r ≡ true)
+        → (namedBy p (s .last) r ≡ true)
         ↔ ((readingNumber r ≡ 0) × Named-by p (s .last) (byte bytes 0) (partnerIn bytes))
     by (Meant e) ok says = (
       (λ h. (refl, kind-names p (s .last) (byte bytes 0) (partnerIn bytes) (sym (says .0) ∙ h))),
@@ -193,7 +194,7 @@ timeoutFor-means p bytes = by (reading bytes) (reading-ok bytes) (reading-says p
     by : (r : Reading)
         → readingOk r ≡ true
         → SaysRead p Unknown bytes r
-        → (ofReading (eventTimeout p) r ≡ true)
+        → (timeoutBy p r ≡ true)
         ↔ ((readingNumber r ≡ 0) × (byte bytes 0 ≡ 10) × (p ≡ partnerIn bytes))
     by (Meant e) ok says = (
       (λ h.
@@ -220,7 +221,7 @@ pub silent-means : (p : Partner) (s : State) (history : List (List ℕ))
     → i < length history
     → names p (after s (take i history)) (getD history i []) ≡ true
     → timeoutFor p (getD history i []) ≡ true)
-unfolding silent after endOf trace
+unfolding silent after
 silent-means p s [] = ((λ h i below. absurd (omega arith)), (λ g. refl))
 silent-means p s (bytes ∷ history) =
     let o = onRecord s bytes actionRoom in

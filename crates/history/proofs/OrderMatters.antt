@@ -7,9 +7,9 @@ use Rattle.place.specs.Table.{turn}
 use Rattle.unit.specs.Lasts.{recalled}
 use Rattle.unit.specs.States.{first, seek, placesOk, sound, cold, coldStart, some}
 use Rattle.unit.specs.Steps.{closed, closingActions, step}
-use Rattle.unit.specs.OnRecords.{trace, onRecord}
+use Rattle.unit.specs.OnRecords.{onRecord}
 use Rattle.unit.specs.declared.last.Last.the-variants.{Known}
-use Rattle.history.specs.Histories.{endOf, after}
+use Rattle.history.specs.Histories.{after}
 use Rattle.history.specs.OrderMatters.{bothWays, pairs, lastBothWays, twoVersions}
 
 -- an order and a partner's event: 156 and 22 for RBC 5, or 21 and 22; two orders, and a call and an order: the last place goes to the first
@@ -21,12 +21,12 @@ pub bothWays-differ :
     ∷ (((0 ∷ 159 ∷ []) ∷ (8 ∷ []) ∷ []) ∷ ((8 ∷ []) ∷ (0 ∷ 21 ∷ []) ∷ []) ∷ [])
     ∷ []
 unfolding reading turn first seek placesOk sound cold coldStart closed closingActions step onRecord
-    after endOf trace some recalled bothWays pairs
+    after some recalled bothWays pairs
 bothWays-differ = refl
 
 -- two messages 32: "the later one sets it"
 -- promise
 pub lastBothWays-differ : lastBothWays twoVersions ≡ Known 0 0 2 ∷ Known 0 0 1 ∷ []
 unfolding reading turn first seek placesOk sound cold coldStart closed closingActions step onRecord
-    after endOf trace some recalled lastBothWays twoVersions
+    after some recalled lastBothWays twoVersions
 lastBothWays-differ = refl

@@ -1,11 +1,12 @@
 -- Cross-checks only: rules told a second time.
 -- What words of the promises on a turn, on an event and on a reading mean, in the paper's numbers.
 -- Proves: ownNumbers-means, firstTries-means, afresh-means, onNext-means, phaseOk-means, fitsIncoming-means, nextSound-means,
--- seatOf-means, readingNumber-means, partnerEventOk-means, namedOk-means, eventOk-means, readingOk-means, ranged-means, takenOk-means.
+-- seatOf-means, readingNumber-means, partnerEventOk-means, namedOk-means, eventOk-means, readingOk-means, ranged-means, takenOk-means,
+-- notEnding-means, versionOf-means.
 use mathlib.Core.Path.{_≡_, refl, sym, ap, _∙_}
 use mathlib.Core.Logic.{_↔_, _⊎_, inl, inr}
 use mathlib.Core.Bool.{Bool, true, false, cond, _||_, not}
-use mathlib.Core.List.{List, [], _∷_}
+use mathlib.Core.List.{List, [], _∷_, map}
 use Prim.Native.Nat.{ℕ, zero, suc, _+_, _*_, _%_, _≤_, _<_}
 use native.Mathlib.Omega.{arith}
 use lib.Dec.{eqb, leb}
@@ -28,6 +29,7 @@ use Rattle.record.specs.declared.event.Reading.the-variants.{Meant, Refused}
 use Rattle.record.specs.declared.take.Taken.the-variants as taking
 use Rattle.record.specs.declared.take.Taken.the-variants.{Whole, Stopped}
 use Rattle.place.specs.Places.{phaseNumber, tries, triesOk, phaseOk, fitsIncoming}
+use Rattle.place.specs.Table.{notEnding, versionOf}
 use Rattle.place.specs.Turns.{ownNumbers, onNext, firstTries, afresh, NextSound, SeatOf}
 use Rattle.place.specs.declared.phase.Phase.{Phase}
 use Rattle.place.specs.declared.phase.Phase.the-variants.{Connecting, Contacting, Open, Lost, Ending}
@@ -298,3 +300,18 @@ pub takenOk-means : (log : List ℕ) (k : ℕ) (r : Reading)
     × (TakenOk log (Stopped k) ↔ ((k ≡ 0) ⊎ ((k ≡ 2) ⊎ (k ≡ 3))))
     × (TakenOk log (taking.Refused k) ↔ ((k ≡ 12) × (1_048_576 < length log)))
 takenOk-means log k r = (((λ h. h), (λ h. h)), ((λ h. h), (λ h. h)), ((λ h. h), (λ h. h)))
+
+-- "that is not Ending": every phase but the fifth
+-- meaning
+pub notEnding-means : (ph : Phase) → notEnding ph ≡ not (eqb (phaseNumber ph) 5)
+notEnding-means (Connecting t) = refl
+notEnding-means (Contacting t) = refl
+notEnding-means Open = refl
+notEnding-means (Lost t) = refl
+notEnding-means (Ending t) = refl
+
+-- message 32 alone has a version
+-- meaning
+pub versionOf-means : (v : ℕ)
+    → map versionOf (Drop ∷ Up ∷ Loss ∷ Timeout ∷ Version v ∷ Ended ∷ []) ≡ 0 ∷ 0 ∷ 0 ∷ 0 ∷ v ∷ 0 ∷ []
+versionOf-means v = refl

@@ -17,12 +17,12 @@ use Rattle.place.specs.declared.place.Direction.{Direction}
 use Rattle.unit.specs.States.{first, seek, placesOk, sound, cold, coldStart, some}
 use Rattle.unit.specs.Steps.{closed, closingActions, step}
 use Rattle.unit.specs.Lasts.{recalled}
-use Rattle.unit.specs.OnRecords.{trace, actionRoom, onRecord}
+use Rattle.unit.specs.OnRecords.{actionRoom, onRecord}
 use Rattle.unit.specs.declared.last.Last.{Last}
 use Rattle.unit.specs.declared.last.Last.the-variants.{Unknown}
 use Rattle.unit.specs.declared.state.State.{State}
 use Rattle.unit.specs.Examples.{examples}
-use Rattle.history.specs.Histories.{sumOver, after, summed, orders, calls, losses, actions}
+use Rattle.history.specs.Histories.{after, summed, orders, calls, losses, actions}
 use Rattle.history.specs.PerEvent.{perOrder, perCall, perLoss, timeoutsToRelease}
 use Rattle.history.specs.Histories.{silent, timeouts, holdsPlace, waitingPhase, waits}
 use Rattle.history.specs.Reaching.{rbc5, order5, drop5, up5, lost5, timeout5, call5, retries, lossesIn, ordering, calling}
@@ -118,7 +118,7 @@ pub reached-one-each :
     map (sumsOf fleetTries) (ordering fleetTries 0 ∷ calling fleetTries 0 ∷ calling fleetTries 1 ∷ [])
     ≡ counts 1 0 0 11 ∷ counts 0 1 0 5 ∷ counts 0 1 1 8 ∷ []
 unfolding reading turn first seek placesOk sound cold coldStart closed closingActions step onRecord
-    summed lossesIn ordering calling sumsOf sumOver trace some recalled
+    summed lossesIn ordering calling sumsOf some recalled
 reached-one-each = refl
 
 -- the same for every limit of tries from 1 to 9
@@ -127,7 +127,7 @@ pub reached-to-nine :
     map (λ n. sumsOf n (ordering n 0) ∷ sumsOf n (calling n 0) ∷ sumsOf n (calling n 1) ∷ []) oneToNine
     ≡ map (λ n. counts 1 0 0 (perOrder n) ∷ counts 0 1 0 (perCall n) ∷ counts 0 1 1 (perCall n + perLoss n) ∷ []) oneToNine
 unfolding reading turn first seek placesOk sound cold coldStart closed closingActions step onRecord
-    summed lossesIn ordering calling sumsOf sumOver trace some recalled
+    summed lossesIn ordering calling sumsOf some recalled
 reached-to-nine = refl
 
 -- the timeouts of RBC 5, from any state

@@ -29,12 +29,12 @@ use Rattle.unit.specs.Lasts.{lastOk, recalled}
 use Rattle.unit.specs.States.{first, seek, limitsOk, placesOk, sound, noMarks, cold, noLimits, coldStart, some}
 use Rattle.unit.specs.Steps.{Outcome, done, act, closed, closingActions, step}
 use Rattle.unit.specs.Searching.{turned}
-use Rattle.unit.specs.OnRecords.{trace, actionRoom, onRecord}
+use Rattle.unit.specs.OnRecords.{actionRoom, onRecord}
 use Rattle.unit.specs.declared.last.Last.{Last}
 use Rattle.unit.specs.declared.last.Last.the-variants.{Unknown, Known}
 use Rattle.unit.specs.declared.start.Started.{Started}
 use Rattle.unit.specs.declared.state.State.{State}
-use Rattle.history.specs.Histories.{endOf, after, isOrder, isCall, isLoss, acceptedAs}
+use Rattle.history.specs.Histories.{after, isOrder, isCall, isLoss, acceptedAs}
 use Rattle.history.specs.PerEvent.{perOrder, perCall, perLoss}
 use Rattle.history.specs.Reaching.{retries, lossesIn, endedLate, ordering, calling}
 use Rattle.history.specs.Sums.{started}
@@ -279,12 +279,12 @@ module _ (n : ℕ) (some-try : 1 ≤ n) (most : n ≤ mostTries) where
 
   -- an order is taken in
   pub connecting-starts : after (started n) (order5 ∷ []) ≡ box n Unknown Outgoing (Connecting 1)
-  unfolding after endOf trace
+  unfolding after
   connecting-starts = ap (λ s. onRecord s order5 actionRoom .state) started-idle ∙ ap (λ o. o .state) (ordered-five Unknown refl)
 
   -- its connection comes up
   pub contacting-starts : after (started n) (order5 ∷ up5 ∷ []) ≡ box n Unknown Outgoing (Contacting 1)
-  unfolding after endOf trace reading turn recalled
+  unfolding after reading turn recalled
   contacting-starts =
       let first = connecting-fit Unknown refl 1 (omega arith) some-try in
       ap (λ s. onRecord s up5 actionRoom .state) connecting-starts
@@ -292,19 +292,19 @@ module _ (n : ℕ) (some-try : 1 ≤ n) (most : n ≤ mostTries) where
 
   -- a call is taken
   call-starts : after (started n) (call5 ∷ []) ≡ box n five Incoming Open
-  unfolding after endOf trace
+  unfolding after
   call-starts = ap (λ s. onRecord s call5 actionRoom .state) started-idle ∙ ap (λ o. o .state) (called-five Unknown refl)
 
   -- its connection is lost; it is dropped
   pub lost-starts : after (started n) (call5 ∷ lost5 ∷ []) ≡ box n five Incoming (Lost 1)
-  unfolding after endOf trace reading turn recalled
+  unfolding after reading turn recalled
   lost-starts =
       let fit = session-fit n limits-ok five refl Incoming Open refl refl in
       ap (λ s. onRecord s lost5 actionRoom .state) call-starts
       ∙ ap (λ o. o .state) (turns n limits-ok five refl Incoming Open Loss lost5 fit refl)
 
   pub ending-starts : after (started n) (call5 ∷ drop5 ∷ []) ≡ box n five Incoming (Ending 1)
-  unfolding after endOf trace reading turn recalled
+  unfolding after reading turn recalled
   ending-starts =
       let fit = session-fit n limits-ok five refl Incoming Open refl refl in
       ap (λ s. onRecord s drop5 actionRoom .state) call-starts

@@ -19,12 +19,12 @@ use Rattle.record.specs.declared.event.Reading.{Reading}
 use Rattle.record.specs.declared.event.Reading.the-variants.{Meant, Refused}
 use Rattle.wire.proofs.Tests.{and-left, and-right, true-false}
 use Rattle.unit.specs.Steps.{Outcome}
-use Rattle.unit.specs.OnRecords.{trace, actionRoom, onRecord}
+use Rattle.unit.specs.OnRecords.{actionRoom, onRecord}
 use Rattle.unit.specs.Lasts.{meant}
 use Rattle.unit.specs.declared.state.State.{State}
 use Rattle.unit.specs.Kept.{count}
-use Rattle.history.specs.Histories.{sumOver, after, summed, ofReading, names, timeoutFor, silent}
-use Rattle.history.specs.Histories.{eventNames, isTimeout, eventTimeout}
+use Rattle.history.specs.Histories.{after, summed, names, isTimeout, timeoutFor, silent}
+use Rattle.history.proofs.Concerned.{namedBy, timeoutBy}
 use Rattle.unit.proofs.Counts.{nothing}
 use Rattle.unit.proofs.Balances.{Sense, Balance, moved}
 use Rattle.unit.proofs.Scales.{Scale, Balanced, brings, counted}
@@ -56,7 +56,7 @@ module _ (σ : Scale) (p : Partner) (free : brings σ Timeout ≡ 0) where
 
   -- so no event and no record that is quiet brings anything
   event-brings : (s : State) (e : Event)
-      → (not (eventNames p (s .last) e) || eventTimeout p e) ≡ true
+      → (not (namedBy p (s .last) (Meant e)) || timeoutBy p (Meant e)) ≡ true
       → brought σ (samePartner p) s e ≡ 0
   event-brings s (Level level manual) h = refl
   event-brings s (Mission mission) h = refl
@@ -73,7 +73,7 @@ module _ (σ : Scale) (p : Partner) (free : brings σ Timeout ≡ 0) where
   record-brings s bytes = by (reading bytes)
     where
       by : (r : Reading)
-          → (not (ofReading (eventNames p (s .last)) r) || ofReading (eventTimeout p) r) ≡ true
+          → (not (namedBy p (s .last) r) || timeoutBy p r) ≡ true
           → ofMeant (brought σ (samePartner p) s) r ≡ 0
       by (Meant e) h = event-brings s e h
       by (Refused r) h = refl
@@ -88,7 +88,7 @@ module _ (σ : Scale) (p : Partner) (free : brings σ Timeout ≡ 0) where
   pub silent-none : (s : State) (history : List (List ℕ))
       → silent p s history ≡ true
       → summed (received σ (samePartner p)) s history ≡ 0
-  unfolding silent summed sumOver trace
+  unfolding silent summed
   silent-none s [] h = refl
   silent-none s (bytes ∷ history) h =
       let o = onRecord s bytes actionRoom in

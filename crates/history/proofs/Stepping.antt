@@ -10,11 +10,11 @@ use native.Mathlib.Omega.{arith}
 use Rattle.record.specs.Records.{reading}
 use Rattle.record.specs.declared.partner.Partner.{Partner}
 use Rattle.unit.specs.States.{sound}
-use Rattle.unit.specs.OnRecords.{trace, actionRoom, onReading, onRecord}
+use Rattle.unit.specs.OnRecords.{actionRoom, onReading, onRecord}
 use Rattle.unit.specs.declared.state.State.{State}
 use Rattle.unit.proofs.Sound.{onRecord-sound}
 use Rattle.wire.proofs.Tests.{and-left, and-right, and-both}
-use Rattle.history.specs.Histories.{endOf, after, names, timeoutFor, silent, timeouts}
+use Rattle.history.specs.Histories.{after, names, timeoutFor, silent, timeouts}
 use Rattle.history.specs.Reaching.{rbc5}
 use Rattle.history.specs.Between.{riu7}
 
@@ -40,7 +40,7 @@ next-sound : (s : State) (bytes : List ℕ) → sound s ≡ true → sound (next
 next-sound s bytes ok = subst (λ x. sound x ≡ true) (next-is s bytes ok) (onRecord-sound s bytes actionRoom ok)
 
 pub after-goes : (s : State) → sound s ≡ true → (history : List (List ℕ)) → after s history ≡ goes s history
-unfolding after endOf trace goes
+unfolding after goes
 after-goes s ok [] = refl
 after-goes s ok (bytes ∷ history) =
     ap (λ x. after x history) (next-is s bytes ok) ∙ after-goes (next s bytes) (next-sound s bytes ok) history

@@ -38,7 +38,8 @@ use Rattle.unit.proofs.Weights.{weigh-at}
 use Rattle.unit.proofs.Searches.{FoundOk, seek-ok}
 use Rattle.unit.proofs.ByFound.{named-found}
 use Rattle.unit.specs.Kept.{count}
-use Rattle.history.specs.Histories.{isTimeout, eventTimeout, ofReading, timeoutFor}
+use Rattle.history.specs.Histories.{isTimeout, timeoutFor}
+use Rattle.history.proofs.Concerned.{timeoutBy}
 use Rattle.unit.proofs.Scales.{weightIn, weightOf, counted}
 use Rattle.history.proofs.Left.{left, lefts, leftTo, none-left}
 
@@ -96,7 +97,7 @@ module _ (p : Partner) (s : State)
       absurd (omega arith)
 
   -- the event is a timeout that names it
-  event-acts : (e : Event) → eventTimeout p e ≡ true → 1 ≤ own (step s e .actions)
+  event-acts : (e : Event) → timeoutBy p (Meant e) ≡ true → 1 ≤ own (step s e .actions)
   event-acts (Level level manual) h = true-false false h refl
   event-acts (Mission mission) h = true-false false h refl
   event-acts Mode h = true-false false h refl
@@ -128,6 +129,6 @@ module _ (p : Partner) (s : State)
   unfolding onRecord own
   timeout-acts ok bytes h = rw ok (by (reading bytes) h)
     where
-      by : (r : Reading) → ofReading (eventTimeout p) r ≡ true → 1 ≤ own (onReading s r .actions)
+      by : (r : Reading) → timeoutBy p r ≡ true → 1 ≤ own (onReading s r .actions)
       by (Meant e) h = event-acts e h
       by (Refused r) h = true-false false h refl

@@ -1,11 +1,12 @@
 -- Cross-checks only: rules told a second time.
 -- What words of the promises on a step and on a run mean, in the paper's numbers.
 -- Proves: kept-means, numbered-means, stands-means, says-means, concern-means, concernOf-means, wasFree-means, isClosedBy-means,
--- weigh-more, here-means, runCode-means, allCodes-means, stopsBy-means, stepsOf-more, sumOf-more, course-more, steps-more.
+-- weigh-more, here-means, runCode-means, allCodes-means, stopsBy-means, stepsOf-more, sumOf-more, course-more, steps-more,
+-- meantLines-codes.
 use mathlib.Core.Path.{_≡_, refl, sym, ap, _∙_, subst⁻¹}
 use mathlib.Core.Logic.{_↔_, _⊎_, inl, inr, ⊎-elim}
 use mathlib.Core.Bool.{Bool, true, false, _&&_, _||_}
-use mathlib.Core.List.{List, [], _∷_}
+use mathlib.Core.List.{List, [], _∷_, map}
 use Prim.Native.Nat.{ℕ, zero, suc, _+_, _≤_, _<_, suc-le-suc}
 use native.Mathlib.Nat.{le-of-suc-le-suc}
 use native.Mathlib.Omega.{arith}
@@ -37,6 +38,7 @@ use Rattle.place.specs.declared.place.Holding.the-variants.{Free, Held}
 use Rattle.place.specs.declared.place.Place.{Place}
 use Rattle.place.specs.declared.turn.Closing.{Closing}
 use Rattle.unit.specs.Kept.{here}
+use Rattle.unit.specs.Examples.{meantLines, want}
 use Rattle.unit.specs.StepWords.{Kept, isClosedBy, WasFree}
 use Rattle.wire.specs.Sums.{sum}
 use Rattle.wire.specs.Bytes.{asBit}
@@ -371,3 +373,11 @@ steps-more s log =
     none : (log : List ℕ) → steps 0 s log ≡ []
     none [] = refl
     none (kind ∷ rest) = refl
+
+-- the lines on the meant partner of Q-2, by the numbers that they say
+-- meaning
+pub meantLines-codes :
+    map (λ lines. map (λ (o : Outcome). o .code) (want lines)) meantLines
+    ≡ (15 ∷ 4 ∷ 3 ∷ 0 ∷ 0 ∷ 0 ∷ 0 ∷ 5 ∷ 3 ∷ 0 ∷ 0 ∷ []) ∷ (0 ∷ 0 ∷ 0 ∷ 0 ∷ 15 ∷ []) ∷ []
+unfolding meantLines want
+meantLines-codes = refl

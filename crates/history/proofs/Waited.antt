@@ -16,11 +16,11 @@ use Rattle.place.specs.Table.{turn}
 use Rattle.unit.specs.States.{first, seek, placesOk, sound, cold, coldStart, some}
 use Rattle.unit.specs.Steps.{act, closed, closingActions, step}
 use Rattle.unit.specs.Lasts.{toRbc, recalled}
-use Rattle.unit.specs.OnRecords.{trace, onRecord}
+use Rattle.unit.specs.OnRecords.{onRecord}
 use Rattle.unit.specs.Kept.{count}
 use Rattle.unit.specs.declared.last.Last.the-variants.{Unknown, Known}
 use Rattle.unit.proofs.Starts.{cold-limits, cold-sound}
-use Rattle.history.specs.Histories.{after, timeouts, holdsPlace, releasesOf, sentBy, sent}
+use Rattle.history.specs.Histories.{after, timeouts, holdsPlace, releasesOf, sent}
 use Rattle.history.specs.PerEvent.{timeoutsToRelease}
 use Rattle.history.specs.Reaching.{rbc5}
 use Rattle.history.specs.Sums.{started}
@@ -189,7 +189,7 @@ sent-lost :
     sent (started 3) bothLost
     ≡ (act rbc5 21 ∷ act riu7 21 ∷ act rbc5 155 ∷ act riu7 155 ∷ [])
     ++ (act rbc5 159 ∷ (act riu7 159 ∷ act rbc5 21 ∷ act riu7 21 ∷ []))
-unfolding reading turn first seek placesOk sound cold coldStart closed closingActions step onRecord trace some recalled sent sentBy
+unfolding reading turn first seek placesOk sound cold coldStart closed closingActions step onRecord some recalled sent
 sent-lost = refl
 
 -- the RBC of the most recent 159 to an RBC is known
@@ -210,7 +210,7 @@ five-not-reserved = reserved-never-known (oneToTwo 3) bothLost 0 0 5 last-known-
 
 -- an RIU alone gets a 159: no RBC is known
 sent-open7 : count toRbc (sent (started 3) open7) ≡ 0
-unfolding reading turn first seek placesOk sound cold coldStart closed closingActions step onRecord trace some recalled sent sentBy count
+unfolding reading turn first seek placesOk sound cold coldStart closed closingActions step onRecord some recalled sent count
 sent-open7 = refl
 
 -- instance

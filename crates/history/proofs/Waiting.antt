@@ -13,7 +13,7 @@ use Rattle.wire.proofs.Tests.{and-left, and-right, cond-case}
 use Rattle.place.specs.Places.{fleetTries, holds}
 use Rattle.place.specs.declared.place.Place.{Place}
 use Rattle.unit.specs.States.{sound, some}
-use Rattle.unit.specs.OnRecords.{trace, actionRoom, onRecord}
+use Rattle.unit.specs.OnRecords.{actionRoom, onRecord}
 use Rattle.unit.specs.declared.state.State.{State}
 use Rattle.unit.specs.declared.answer.Action.{Action}
 use Rattle.unit.specs.Kept.{here, count}
@@ -22,7 +22,7 @@ use Rattle.wire.specs.Sums.{sum}
 use Rattle.unit.proofs.Effects.{onRecord-limits}
 use Rattle.unit.proofs.Facts.{limits-tries, sound-facts}
 use Rattle.unit.proofs.Sound.{onRecord-sound}
-use Rattle.history.specs.Histories.{endOf, after, timeoutFor, silent, timeouts, holdsPlace, waits}
+use Rattle.history.specs.Histories.{after, timeoutFor, silent, timeouts, holdsPlace, waits}
 use Rattle.history.specs.Histories.{isRelease, releaseOf, releasesOf}
 use Rattle.history.specs.PerEvent.{timeoutsToRelease}
 use Rattle.unit.proofs.Counts.{count-same}
@@ -78,7 +78,7 @@ module _ (p : Partner) where
       → (history : List (List ℕ))
       → silent p s history ≡ true
       → leftIn p (after s history) ≤ leftIn p s - timeouts p history
-  unfolding after silent timeouts endOf trace
+  unfolding after silent timeouts
   left-after s ok few [] h = omega arith
   left-after s ok few (bytes ∷ history) h =
       let o = onRecord s bytes actionRoom in

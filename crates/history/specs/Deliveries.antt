@@ -16,10 +16,10 @@ use Rattle.place.specs.Table.{turn}
 use Rattle.unit.specs.Lasts.{recalled}
 use Rattle.unit.specs.States.{first, seek, placesOk, sound, cold, coldStart, some}
 use Rattle.unit.specs.Steps.{closed, closingActions, step}
-use Rattle.unit.specs.OnRecords.{trace, onRecord}
+use Rattle.unit.specs.OnRecords.{onRecord}
 use Rattle.unit.specs.declared.state.State.{State}
 use Rattle.unit.specs.declared.answer.Action.{Action}
-use Rattle.history.specs.Histories.{endOf, after}
+use Rattle.history.specs.Histories.{after}
 use Rattle.history.specs.Sums.{started}
 use Rattle.history.specs.EitherOrder.{Delivered, Reply}
 
@@ -98,7 +98,7 @@ atWork =
 
 unfoldable pub working : State
 unfolding reading turn first seek placesOk sound cold coldStart closed closingActions step onRecord
-    after endOf trace some recalled atWork
+    after some recalled atWork
 working = after (started fleetTries) atWork
 
 -- RBC 1: 32, 32, lost, up; RBC 2: three timeouts; RIU 3: up, timeout; RBC 4: drop, 39

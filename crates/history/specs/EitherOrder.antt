@@ -1,9 +1,9 @@
 -- Request Q-11: "Our radio layer delivers events of different partners in whichever order they come."
 -- Defines: Delivered, Differ, versions, Compared, Reply, answerOf, next, alone, Alike.
-use Prim.Native.Nat.{ℕ, _+_, _≤_}
+use Prim.Native.Nat.{ℕ, _≤_}
 use mathlib.Core.Bool.{false}
 use mathlib.Core.Path.{_≡_}
-use mathlib.Core.List.{List, [], _∷_}
+use mathlib.Core.List.{List}
 use Rattle.record.specs.Partners.{samePartner}
 use Rattle.record.specs.Records.{reading}
 use Rattle.record.specs.declared.partner.Partner.{Partner}
@@ -13,6 +13,7 @@ use Rattle.record.specs.declared.event.Reading.the-variants.{Meant}
 use Rattle.unit.specs.Steps.{Outcome}
 use Rattle.unit.specs.Kept.{isVersion}
 use Rattle.wire.specs.Bytes.{asBit}
+use Rattle.wire.specs.Sums.{sum}
 use Rattle.unit.specs.OnRecords.{actionRoom, onRecord}
 use Rattle.unit.specs.declared.state.State.{State}
 use Rattle.unit.specs.declared.search.Standing.{Standing}
@@ -30,9 +31,8 @@ abbrev pub Differ : Delivered → Delivered → Type 0
 Differ x y = samePartner (x .partner) (y .partner) ≡ false
 
 -- how many are message 32
-unfoldable pub versions : List Delivered → ℕ
-versions [] = 0
-versions (x ∷ xs) = asBit (isVersion (x .event)) + versions xs
+abbrev pub versions : List Delivered → ℕ
+versions = sum (λ x. asBit (isVersion (x .event)))
 
 -- "If both are message 32 the last known RBC .. is left out": it is compared where at most one is
 abbrev pub Compared : List Delivered → Type 0

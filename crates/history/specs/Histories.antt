@@ -1,8 +1,8 @@
 -- Document 01, "Worth of each promise": histories, and what demand 3 counts in them.
 -- A history is a row of event records, any bytes, each given 20 bytes for its actions. Everything is counted from the defined steps.
--- Defines: endOf, after, sumOver, summed, isOrder, isCall, isLoss, acceptedAs, orders, calls, losses, actions, isRelease, releases,
--- placesHeld, eventNames, isTimeout, eventTimeout, ofReading, names, timeoutFor, silent, timeouts, holdsPlace, waitingPhase, waitsAt,
--- waits, releaseOf, releasesOf, actionsOf, ordersOf, callsOf, lossesOf, sentBy, sent.
+-- Defines: after, summed, isOrder, isCall, isLoss, acceptedAs, orders, calls, losses, actions, isRelease, releases,
+-- placesHeld, names, isTimeout, timeoutFor, silent, timeouts, holdsPlace, waitingPhase, waitsAt,
+-- waits, releaseOf, releasesOf, actionsOf, ordersOf, callsOf, lossesOf, sent.
 use Prim.Native.Nat.{ℕ, _+_}
 use mathlib.Core.Bool.{Bool, true, false, _&&_, _||_, not}
 use mathlib.Core.List.{List, [], _∷_, _++_}
@@ -16,41 +16,28 @@ use Rattle.wire.specs.Sums.{sum}
 use Rattle.wire.specs.Refusals.{accepted}
 use Rattle.record.specs.declared.partner.Partner.{Partner}
 use Rattle.record.specs.declared.event.PartnerEvent.{PartnerEvent}
-use Rattle.record.specs.declared.event.Event.{Event}
-use Rattle.record.specs.declared.event.Reading.{Reading}
-use Rattle.record.specs.declared.event.Reading.the-variants.{Meant, Refused}
 use Rattle.place.specs.Places.{byPhase, isFree, holds, onHolding}
 use Rattle.place.specs.Table.{release}
 use Rattle.place.specs.declared.phase.Phase.{Phase}
 use Rattle.place.specs.declared.place.Place.{Place}
 use Rattle.unit.specs.Steps.{Outcome}
 use Rattle.unit.specs.Kept.{count}
-use Rattle.unit.specs.OnRecords.{actionRoom, onRecord, trace}
-use Rattle.unit.specs.Standings.{byConcern, concern}
-use Rattle.unit.specs.declared.last.Last.{Last}
+use Rattle.unit.specs.OnRecords.{actionRoom, onRecord}
+use Rattle.unit.specs.Standings.{byConcern, concernOf}
 use Rattle.unit.specs.declared.last.Last.the-variants.{Unknown}
 use Rattle.unit.specs.declared.state.State.{State}
 use Rattle.unit.specs.declared.answer.Action.{Action}
 use Rattle.unit.specs.States.{some}
 
--- the state that a row of outcomes ends in
-unfoldable pub endOf : State → List Outcome → State
-endOf s [] = s
-endOf s (o ∷ os) = endOf (o .state) os
-
 -- the state after a history: "a row of event records, each given 20 bytes for its actions"
 unfoldable pub after : State → List (List ℕ) → State
-after s history = endOf s (trace s history)
+after s [] = s
+after s (bytes ∷ history) = after (onRecord s bytes actionRoom .state) history
 
--- the sum of what each record counts for, by the state that it meets and its outcome
-unfoldable pub sumOver : (State → List ℕ → Outcome → ℕ) → State → List (List ℕ) → List Outcome → ℕ
-sumOver f s [] os = 0
-sumOver f s (bytes ∷ history) [] = 0
-sumOver f s (bytes ∷ history) (o ∷ os) = f s bytes o + sumOver f (o .state) history os
-
--- the sum over a history
+-- the sum over a history of what each record counts for, by the state that it meets and its outcome
 unfoldable pub summed : (State → List ℕ → Outcome → ℕ) → State → List (List ℕ) → ℕ
-summed f s history = sumOver f s history (trace s history)
+summed f s [] = 0
+summed f s (bytes ∷ history) = f s bytes (onRecord s bytes actionRoom) + summed f (onRecord s bytes actionRoom .state) history
 
 -- kind 5; kind 11 with number 38; kind 9: read from the record's bytes
 abbrev pub isOrder : List ℕ → Bool
@@ -94,26 +81,16 @@ placesHeld ps = sum (λ p. asBit (not (isFree p))) ps
 
 -- a record names a partner when it reads as an event that carries that type and number; Q-2: an order with 16,383 names whoever is
 -- meant by it at that point
-abbrev pub eventNames : Partner → Last → Event → Bool
-eventNames p last e = byConcern false (samePartner p) (samePartner p) (λ q f. samePartner p q) (concern last e)
+abbrev pub names : Partner → State → List ℕ → Bool
+names p s bytes = byConcern false (samePartner p) (samePartner p) (λ q f. samePartner p q) (concernOf (s .last) (reading bytes))
 
 abbrev pub isTimeout : PartnerEvent → Bool
 isTimeout = byEvent false false false true (λ v. false) false
 
--- whom an order means plays no part in it
-abbrev pub eventTimeout : Partner → Event → Bool
-eventTimeout p e = byConcern false (λ q. false) (λ q. false) (λ q f. samePartner p q && isTimeout f) (concern Unknown e)
-
-abbrev pub ofReading : (Event → Bool) → Reading → Bool
-ofReading test (Meant e) = test e
-ofReading test (Refused r) = false
-
-abbrev pub names : Partner → State → List ℕ → Bool
-names p s bytes = ofReading (eventNames p (s .last)) (reading bytes)
-
--- a timeout for a partner
+-- a timeout for a partner; whom an order means plays no part in it
 abbrev pub timeoutFor : Partner → List ℕ → Bool
-timeoutFor p bytes = ofReading (eventTimeout p) (reading bytes)
+timeoutFor p bytes =
+    byConcern false (λ q. false) (λ q. false) (λ q f. samePartner p q && isTimeout f) (concernOf Unknown (reading bytes))
 
 -- "is from then on named by nothing but timeouts"
 unfoldable pub silent : Partner → State → List (List ℕ) → Bool
@@ -160,9 +137,6 @@ abbrev pub lossesOf : Partner → State → List (List ℕ) → ℕ
 lossesOf p = summed (acceptedAs (λ s bytes. names p s bytes && isLoss bytes))
 
 -- the actions of a history, in their order
-unfoldable pub sentBy : List Outcome → List Action
-sentBy [] = []
-sentBy (o ∷ os) = o .actions ++ sentBy os
-
 unfoldable pub sent : State → List (List ℕ) → List Action
-sent s history = sentBy (trace s history)
+sent s [] = []
+sent s (bytes ∷ history) = onRecord s bytes actionRoom .actions ++ sent (onRecord s bytes actionRoom .state) history

@@ -1,4 +1,5 @@
 pub mod Histories
+pub mod Walked
 pub mod Reaching
 pub mod Counting
 pub mod Between

@@ -1,5 +1,5 @@
 -- Document 01, "Worth of each promise": what demand 3 counts in a history from a cold start with X 1 to 2 and n tries.
--- Defines: started, Sums, sumsOf, counts.
+-- Defines: started, Sums, counts, sumsOf.
 use Prim.Native.Nat.{ℕ}
 use mathlib.Core.List.{List}
 use Rattle.unit.specs.States.{coldStart, oneToTwo}
@@ -17,15 +17,11 @@ pub record Sums : Type 0 where
   pub losses : ℕ
   pub actions : ℕ
 
-unfoldable pub sumsOf : ℕ → List (List ℕ) → Sums
-sumsOf n history =
-    record {
-      orders = orders (started n) history;
-      calls = calls (started n) history;
-      losses = losses (started n) history;
-      actions = actions (started n) history;
-    }
-
 -- a orders, b calls, c losses and k actions
 abbrev pub counts : ℕ → ℕ → ℕ → ℕ → Sums
 counts a b c k = record { orders = a; calls = b; losses = c; actions = k }
+
+unfoldable pub sumsOf : ℕ → List (List ℕ) → Sums
+sumsOf n history =
+    let s : State = started n in
+    counts (orders s history) (calls s history) (losses s history) (actions s history)

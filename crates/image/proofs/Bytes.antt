@@ -30,12 +30,12 @@ use Rattle.unit.specs.States.{placeCount, sound}
 use Rattle.unit.specs.declared.last.Last.{Last}
 use Rattle.unit.specs.declared.last.Last.the-variants.{Unknown, Known}
 use Rattle.unit.specs.declared.state.State.{State}
-use Rattle.image.specs.Images.{placeSize, placeBytes, placesBytes, bodyBytes, lastBytes}
+use Rattle.image.specs.Images.{placeSize, placeBytes, bodyBytes, lastBytes}
 use Rattle.wire.specs.Bytes.{asBit}
-use Rattle.image.specs.Images.{tailBytes, wholeBytes, imageA1, imageA2}
+use Rattle.image.specs.Images.{wholeBytes, imageA1, imageA2}
 use Rattle.image.specs.Images.{phaseOf, directionOf, placeIn, placesIn, lastIn, stateIn, sameBytes, isBodyOf}
 use Rattle.image.specs.Images.{oldBodySize}
-use Rattle.image.specs.Bodies.{lastFrom}
+use Rattle.image.specs.Bodies.{placesBytes, tailBytes, lastFrom}
 
 -- each value's byte stands for it again
 phaseOf-number : (ph : Phase) → phaseOf (phaseNumber ph) (tries ph) ≡ ph

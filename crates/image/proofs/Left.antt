@@ -22,9 +22,8 @@ use Rattle.place.specs.declared.place.Place.{Place}
 use Rattle.unit.specs.States.{placeCount, some, limitsOk, absentFrom}
 use Rattle.unit.proofs.Facts.{sound-facts}
 use Rattle.image.specs.Images.{sizeA2, placeSize, placeBytes, lastBytes, wholeBytes, imageA2}
-use Rattle.image.specs.Images.{placesAt}
 use Rattle.image.specs.Images.{oldBodySize}
-use Rattle.image.specs.Bodies.{lastFrom}
+use Rattle.image.specs.Bodies.{placesAt, lastFrom}
 use Rattle.image.specs.Images.{stateIn, readA2}
 use Rattle.image.specs.Rescue.{mendPlace, mendPlaces, keep, keepFirst, mended, fieldOffsets, changed, listing}
 use Rattle.image.specs.Rescue.{spoilt, left, rescue, rescued}

@@ -26,10 +26,10 @@ use Rattle.unit.specs.declared.last.Last.the-variants.{Unknown, Known}
 use Rattle.unit.specs.declared.state.State.{State}
 use Rattle.unit.proofs.Facts.{sound-facts, facts-sound, places-facts, facts-places}
 use Rattle.wire.specs.Blocks.{blocks}
-use Rattle.image.specs.Images.{placeSize, placeBytes, placesBytes, bodyBytes, lastBytes, tailBytes, wholeBytes, placeIn}
+use Rattle.image.specs.Images.{placeSize, placeBytes, bodyBytes, lastBytes, wholeBytes, placeIn}
 use Rattle.image.specs.Images.{headSize, lastIn, stateIn, sameBytes}
 use Rattle.image.specs.Images.{oldBodySize}
-use Rattle.image.specs.Bodies.{lastFrom}
+use Rattle.image.specs.Bodies.{placesBytes, tailBytes, lastFrom}
 use Rattle.image.specs.Rescue.{within, mendTrain, mendMarks, isPlaceOf, mendPlace, mendPlaces, keep, keepFirst}
 use Rattle.image.specs.Rescue.{isLastOf, mendLast, mended}
 use Rattle.image.proofs.Bytes.{placeBytes-length, placeIn-bytes, stateIn-whole, whole-tail, same-bytes}

@@ -12,7 +12,7 @@ use lib.ListN.{length, length-append, length-drop, drop}
 use lib.Seq.{sets, sets-eq, take-all, take-at, drop-at, drop-drop}
 use borrow.Author.Tests.{leb-true, le-leb, lt-leb}
 use Rattle.record.specs.Records.{highestLevel, missionUnderWay}
-use Rattle.wire.specs.Refusals.{noRoom, notSound, notInA1}
+use Rattle.wire.specs.Refusals.{accepted, noRoom, notSound, notInA1}
 use Rattle.wire.proofs.Tests.{and-left, and-right}
 use Rattle.wire.proofs.Blocks.{FilledTo}
 use Rattle.place.specs.Places.{fleetTries}
@@ -20,9 +20,10 @@ use Rattle.unit.specs.States.{placeCount, sound}
 use Rattle.unit.specs.declared.last.Last.the-variants.{Unknown, Known}
 use Rattle.unit.specs.declared.state.State.{State}
 use Rattle.unit.proofs.Facts.{sound-facts}
-use Rattle.image.specs.Images.{kindA2, sizeA1, sizeA2, placeBytes, placesBytes, headBytes, bodyBytes, tailBytes, wholeBytes}
-use Rattle.image.specs.Images.{imageA1, imageA2, isUnknown, fitsA1, writeRefused, writeAccepted}
+use Rattle.image.specs.Images.{kindA2, sizeA1, sizeA2, placeBytes, headBytes, bodyBytes, wholeBytes}
+use Rattle.image.specs.Images.{imageA1, imageA2, isUnknown, fitsA1, stored}
 use Rattle.image.specs.Images.{writeA2, writeA1, imagedA2, imagedA1}
+use Rattle.image.specs.Bodies.{placesBytes, tailBytes}
 use Rattle.image.proofs.Bytes.{lastBytes-length, imageA1-length}
 
 -- the numbers of a sound state that are wider than a byte in the code
@@ -113,27 +114,27 @@ module _ (s : State) (buffer : List ℕ) (four : length (s .places) ≡ placeCou
 module _ (s : State) (buffer : List ℕ) where
   pub wrote-a2-no-room :
       length buffer < sizeA2
-      → (writeRefused noRoom s ≡ writeA2 s (length buffer)) × (buffer ≡ imagedA2 s buffer)
+      → (stored noRoom 0 s ≡ writeA2 s (length buffer)) × (buffer ≡ imagedA2 s buffer)
   unfolding writeA2 imagedA2
   wrote-a2-no-room small = (simp (lt-leb sizeA2 (length buffer) small), simp (lt-leb sizeA2 (length buffer) small))
 
   pub wrote-a1-no-room :
       length buffer < sizeA1
-      → (writeRefused noRoom s ≡ writeA1 s (length buffer)) × (buffer ≡ imagedA1 s buffer)
+      → (stored noRoom 0 s ≡ writeA1 s (length buffer)) × (buffer ≡ imagedA1 s buffer)
   unfolding writeA1 imagedA1
   wrote-a1-no-room small = (simp (lt-leb sizeA1 (length buffer) small), simp (lt-leb sizeA1 (length buffer) small))
 
   module _ (room : sizeA2 ≤ length buffer) where
     pub wrote-a2-unsound :
         sound s ≡ false
-        → (writeRefused notSound s ≡ writeA2 s (length buffer)) × (buffer ≡ imagedA2 s buffer)
+        → (stored notSound 0 s ≡ writeA2 s (length buffer)) × (buffer ≡ imagedA2 s buffer)
     unfolding writeA2 imagedA2
     wrote-a2-unsound bad = (simp (le-leb sizeA2 (length buffer) room, bad), simp (le-leb sizeA2 (length buffer) room, bad))
 
     pub wrote-a2 : (after : List ℕ)
         → sound s ≡ true
         → after ≡ imageA2 s ++ drop sizeA2 buffer
-        → (writeAccepted sizeA2 s ≡ writeA2 s (length buffer)) × (after ≡ imagedA2 s buffer)
+        → (stored accepted sizeA2 s ≡ writeA2 s (length buffer)) × (after ≡ imagedA2 s buffer)
     unfolding writeA2 imagedA2
     wrote-a2 after good wrote =
         (simp (le-leb sizeA2 (length buffer) room, good), wrote ∙ simp (le-leb sizeA2 (length buffer) room, good))
@@ -141,14 +142,14 @@ module _ (s : State) (buffer : List ℕ) where
   module _ (room : sizeA1 ≤ length buffer) where
     pub wrote-a1-unsound :
         sound s ≡ false
-        → (writeRefused notSound s ≡ writeA1 s (length buffer)) × (buffer ≡ imagedA1 s buffer)
+        → (stored notSound 0 s ≡ writeA1 s (length buffer)) × (buffer ≡ imagedA1 s buffer)
     unfolding writeA1 imagedA1
     wrote-a1-unsound bad = (simp (le-leb sizeA1 (length buffer) room, bad), simp (le-leb sizeA1 (length buffer) room, bad))
 
     pub wrote-a1-unfit :
         sound s ≡ true
         → fitsA1 s ≡ false
-        → (writeRefused notInA1 s ≡ writeA1 s (length buffer)) × (buffer ≡ imagedA1 s buffer)
+        → (stored notInA1 0 s ≡ writeA1 s (length buffer)) × (buffer ≡ imagedA1 s buffer)
     unfolding writeA1 imagedA1
     wrote-a1-unfit good unfit =
         (simp (le-leb sizeA1 (length buffer) room, good, unfit), simp (le-leb sizeA1 (length buffer) room, good, unfit))
@@ -157,7 +158,7 @@ module _ (s : State) (buffer : List ℕ) where
         → sound s ≡ true
         → fitsA1 s ≡ true
         → after ≡ imageA1 s ++ drop sizeA1 buffer
-        → (writeAccepted sizeA1 s ≡ writeA1 s (length buffer)) × (after ≡ imagedA1 s buffer)
+        → (stored accepted sizeA1 s ≡ writeA1 s (length buffer)) × (after ≡ imagedA1 s buffer)
     unfolding writeA1 imagedA1
     wrote-a1 after good fits wrote =
         (simp (le-leb sizeA1 (length buffer) room, good, fits), wrote ∙ simp (le-leb sizeA1 (length buffer) room, good, fits))

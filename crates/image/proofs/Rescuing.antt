@@ -30,11 +30,9 @@ use Rattle.unit.specs.declared.last.Last.the-variants.{Unknown}
 use Rattle.unit.specs.declared.state.State.{State}
 use Rattle.unit.specs.declared.start.Started.{Started}
 use Rattle.image.specs.Images.{placeSize, placeBytes, headSize, lastSize, lastBytes, placeIn, lastIn, sameBytes}
-use Rattle.image.specs.Images.{placesAt}
-use Rattle.image.specs.Images.{lastAt}
 use Rattle.image.specs.Rescue.{within, mendPlace, mendPlaces, keep, keepFirst, isLastOf, mendLast}
 use Rattle.image.specs.Images.{kindA2, sizeA2, imageA2, stateIn, readRefused, readA2}
-use Rattle.image.specs.Bodies.{readBody, ofLength}
+use Rattle.image.specs.Bodies.{placesAt, lastAt, readBody, ofLength}
 use Rattle.image.specs.Rescue.{fieldOffsets, mostFields, sizeOf, part, changed, listing, spoilt, left, rescue, rescued}
 
 pub within-kept : (most n : ℕ) → n ≤ most → n ≡ within most n

@@ -21,11 +21,11 @@ use Rattle.unit.specs.declared.last.Last.the-variants.{Unknown, Known}
 use Rattle.unit.specs.declared.state.State.{State}
 use Rattle.unit.specs.declared.start.Started.{Started}
 use Rattle.unit.proofs.Facts.{sound-facts}
-use Rattle.image.specs.Images.{kindA1, kindA2, sizeA1, sizeA2, placeSize, placeBytes, bodyBytes, lastBytes, tailBytes, wholeBytes}
-use Rattle.image.specs.Images.{imageA1, imageA2, fitsA1, placesAt, stateIn, readRefused, isBodyOf}
+use Rattle.image.specs.Images.{kindA1, kindA2, sizeA1, sizeA2, placeSize, placeBytes, bodyBytes, lastBytes, wholeBytes}
+use Rattle.image.specs.Images.{imageA1, imageA2, fitsA1, headSize, stateIn, readRefused, isBodyOf}
 use Rattle.image.specs.Images.{oldBodySize}
 use Rattle.image.specs.Images.{tailOfA1, readA2, readImage}
-use Rattle.image.specs.Bodies.{readBody, ofLength}
+use Rattle.image.specs.Bodies.{tailBytes, placesAt, readBody, ofLength}
 use Rattle.image.proofs.Again.Writing.{fitsA1-means}
 use Rattle.image.proofs.Bytes.{bodyBytes-length, stateIn-whole, imageA1-length, imageA2-length}
 use Rattle.image.proofs.Bytes.{isBodyOf-means, place-bytes-at, zeros-free, free-zeros}
@@ -174,7 +174,7 @@ pub read-free : (bytes : List ℕ) (i : ℕ)
     → readImage bytes .code ≡ accepted
     → i < placeCount
     → (isFree (getD (readImage bytes .state .places) i vacant) ≡ true)
-    ↔ (take placeSize (drop (placesAt + placeSize * i) bytes) ≡ replicate placeSize 0)
+    ↔ (take placeSize (drop (1 + headSize + placeSize * i) bytes) ≡ replicate placeSize 0)
 read-free bytes i ok below =
     ((λ free. seven ∙ free-zeros (place .holding) free), (λ zeros. zeros-free (place .holding) (sym seven ∙ zeros)))
   where

@@ -1,12 +1,12 @@
 -- Reading an image as the code does it: byte after byte, and by what its tests showed.
 -- Defines: CopiedTo.
--- Proves: place-free, place-held, last-none, last-some, same-end, same-more, same-other, same-lengths, read-a2-empty,
+-- Proves: phaseOf-other, place-free, place-held, last-none, last-some, same-end, same-more, same-other, same-lengths, read-a2-empty,
 -- read-a2-unknown, read-a2-wrong, read-a2-whole, read-empty, read-other, read-a1-wrong, read-a1-whole, body-by, part-all,
 -- image-body, copy-more, copy-length, copy-end.
 use mathlib.Core.Path.{_≡_, refl, sym, ap, ap₂, _∙_}
 use mathlib.Core.Bool.{Bool, true, false, cond, _&&_}
 use mathlib.Core.List.{List, [], _∷_, _++_, append-nil}
-use Prim.Native.Nat.{ℕ, suc, _+_, _-_, _≤_, _<_}
+use Prim.Native.Nat.{ℕ, zero, suc, _+_, _-_, _≤_, _<_}
 use native.Mathlib.Nat.{add-zero, zero-add}
 use native.Mathlib.Numerals.{add-one}
 use native.Mathlib.Omega.{arith}
@@ -18,6 +18,7 @@ use Rattle.wire.specs.Bytes.{byte}
 use Rattle.wire.specs.Refusals.{accepted, wrongLength, unknownKind, notSound}
 use Rattle.place.specs.Places.{fleetTries, vacant, seat}
 use Rattle.place.specs.declared.phase.Phase.{Phase}
+use Rattle.place.specs.declared.phase.Phase.the-variants.{Ending}
 use Rattle.place.specs.declared.place.Direction.{Direction}
 use Rattle.unit.specs.States.{placeCount, sound}
 use Rattle.unit.specs.declared.last.Last.the-variants.{Unknown, Known}
@@ -29,6 +30,20 @@ use Rattle.image.specs.Bodies.{lastFrom}
 use Rattle.image.specs.Images.{stateIn, sameBytes, readRefused, isBodyOf, tailOfA1, readA2, readImage}
 use Rattle.image.specs.Bodies.{readBody}
 use Rattle.image.proofs.Bytes.{bytes-same, wholeBytes-length}
+
+-- a number of none of the first four phases
+pub phaseOf-other : (number tries : ℕ)
+    → (number ≡ 1 → ⊥)
+    → (number ≡ 2 → ⊥)
+    → (number ≡ 3 → ⊥)
+    → (number ≡ 4 → ⊥)
+    → Ending tries ≡ phaseOf number tries
+phaseOf-other zero tries n₁ n₂ n₃ n₄ = refl
+phaseOf-other (suc zero) tries n₁ n₂ n₃ n₄ = absurd (n₁ refl)
+phaseOf-other (suc (suc zero)) tries n₁ n₂ n₃ n₄ = absurd (n₂ refl)
+phaseOf-other (suc (suc (suc zero))) tries n₁ n₂ n₃ n₄ = absurd (n₃ refl)
+phaseOf-other (suc (suc (suc (suc zero)))) tries n₁ n₂ n₃ n₄ = absurd (n₄ refl)
+phaseOf-other (suc (suc (suc (suc (suc k))))) tries n₁ n₂ n₃ n₄ = refl
 
 module _ (s : List ℕ) (at : ℕ) where
   byte-here : byte (drop at s) 0 ≡ getD s at 0

@@ -1,13 +1,12 @@
 -- Document 01, "Stored image", and request Q-4: the bytes of a state as A1 and as A2, and the state of such bytes.
--- Defines: kindA1, kindA2, sizeA1, sizeA2, placeSize, placeBytes, placesBytes, headBytes, bodyBytes, lastSize, lastBytes, tailBytes,
--- wholeBytes, imageA1, imageA2, isUnknown, fitsA1, writeRefused, writeAccepted, needsA2, needsA1, writeA2, writeA1, imagedA2, imagedA1,
--- phaseOf, directionOf, heldIn, placeIn, placesIn, headSize, oldBodySize, placesAt, lastAt, lastIn, stateIn, sameBytes, readRefused,
--- isBodyOf, tailOfA1, readAs, readA2, readImage.
+-- Defines: kindA1, kindA2, sizeA1, sizeA2, placeSize, placeBytes, headBytes, bodyBytes, lastSize, lastBytes, wholeBytes, imageA1, imageA2,
+-- isUnknown, fitsA1, stored, needsA2, needsA1, writeA2, writeA1, imagedA2, imagedA1, phaseOf, directionOf, heldIn, placeIn, placesIn,
+-- headSize, oldBodySize, lastIn, stateIn, sameBytes, readRefused, isBodyOf, tailOfA1, readAs, readA2, readImage.
 use Prim.Native.Nat.{ℕ, zero, suc, _+_, _*_}
 use mathlib.Core.Bool.{Bool, true, false, cond, _&&_, not}
 use mathlib.Core.List.{List, [], _∷_, _++_}
 use lib.Dec.{eqb, leb}
-use lib.ListN.{length, drop, replicate}
+use lib.ListN.{length, getD, drop, replicate}
 use Rattle.wire.specs.Blocks.{blocks}
 use Rattle.wire.specs.Bytes.{byte, isEmpty, flag, asBit}
 use Rattle.wire.specs.Orders.{firstThatApplies}
@@ -47,30 +46,18 @@ placeSize = 7
 -- "A free place is seven zeros"; "phase, direction, tries, partner"
 abbrev pub placeBytes : Place → List ℕ
 placeBytes place =
-    onHolding (replicate placeSize 0)
-    (λ d ph p. phaseNumber ph ∷ directionNumber d ∷ tries ph ∷ partnerBytes p)
-    (place .holding)
-
--- the bytes of the places, one after the other
-abbrev pub placesBytes : List Place → List ℕ
-placesBytes = blocks placeBytes
+    onHolding (replicate placeSize 0) (λ d ph p. phaseNumber ph ∷ directionNumber d ∷ tries ph ∷ partnerBytes p) (place .holding)
 
 -- "lowest X, highest X, level, mission; the marks in the order listed above"; "Otherwise each byte is the value itself"
 abbrev pub headBytes : State → List ℕ
 headBytes s =
-    s .limits .lowest
-    ∷ s .limits .highest
-    ∷ s .train .level
-    ∷ s .train .mission
-    ∷ asBit (s .marks .inside)
-    ∷ asBit (s .marks .mode)
-    ∷ asBit (s .marks .manual)
-    ∷ asBit (s .marks .end)
+    s .limits .lowest ∷ s .limits .highest ∷ s .train .level ∷ s .train .mission
+    ∷ asBit (s .marks .inside) ∷ asBit (s .marks .mode) ∷ asBit (s .marks .manual) ∷ asBit (s .marks .end)
     ∷ []
 
--- the 36 bytes of both kinds after the first
+-- the 36 bytes of both kinds after the first: the head, then the bytes of the places, one after the other
 unfoldable pub bodyBytes : State → List ℕ
-bodyBytes s = headBytes s ++ placesBytes (s .places)
+bodyBytes s = headBytes s ++ blocks placeBytes (s .places)
 
 -- Q-4: "then 1 and the last RBC's three bytes, or four zeros when none is known"
 abbrev pub lastSize : ℕ
@@ -80,13 +67,9 @@ abbrev pub lastBytes : Last → List ℕ
 lastBytes Unknown = replicate lastSize 0
 lastBytes (Known high middle low) = 1 ∷ high ∷ middle ∷ low ∷ []
 
--- Q-4: "the 36 old body bytes, then n, then .."
-abbrev pub tailBytes : State → List ℕ
-tailBytes s = s .limits .tries ∷ lastBytes (s .last)
-
--- all of A2 behind its kind
+-- all of A2 behind its kind; Q-4: "the 36 old body bytes, then n, then .."
 unfoldable pub wholeBytes : State → List ℕ
-wholeBytes s = bodyBytes s ++ tailBytes s
+wholeBytes s = bodyBytes s ++ (s .limits .tries ∷ lastBytes (s .last))
 
 -- the images of a state
 unfoldable pub imageA1 : State → List ℕ
@@ -103,12 +86,9 @@ isUnknown (Known high middle low) = false
 abbrev pub fitsA1 : State → Bool
 fitsA1 s = eqb (s .limits .tries) fleetTries && isUnknown (s .last)
 
--- what a refused write answers, and an accepted one
-abbrev pub writeRefused : ℕ → State → Stored
-writeRefused r s = record { code = r; state = s; count = 0 }
-
-abbrev pub writeAccepted : ℕ → State → Stored
-writeAccepted size s = record { code = accepted; state = s; count = size }
+-- the answer of a write: 0 or the number of its refusal, the bytes that it wrote, and the state as given
+abbrev pub stored : ℕ → ℕ → State → Stored
+stored number size s = record { code = number; state = s; count = size }
 
 -- "Image write: 10, 11": room is the length of the buffer; Q-4: "Image buffers must have 42 bytes for A2"
 abbrev pub needsA2 : State → ℕ → List (Bool × ℕ)
@@ -120,10 +100,10 @@ needsA1 s room = (leb sizeA1 room, noRoom) ∷ (sound s, notSound) ∷ (fitsA1 s
 
 -- what a write answers
 unfoldable pub writeA2 : State → ℕ → Stored
-writeA2 s room = firstThatApplies (λ r. writeRefused r s) (needsA2 s room) (writeAccepted sizeA2 s)
+writeA2 s room = firstThatApplies (λ r. stored r 0 s) (needsA2 s room) (stored accepted sizeA2 s)
 
 unfoldable pub writeA1 : State → ℕ → Stored
-writeA1 s room = firstThatApplies (λ r. writeRefused r s) (needsA1 s room) (writeAccepted sizeA1 s)
+writeA1 s room = firstThatApplies (λ r. stored r 0 s) (needsA1 s room) (stored accepted sizeA1 s)
 
 -- the buffer after a write: "An accepted call writes only its .. image; later bytes stay"; a refused one "writes nothing"
 unfoldable pub imagedA2 : State → List ℕ → List ℕ
@@ -136,20 +116,16 @@ imagedA1 s buffer = firstThatApplies (λ r. buffer) (needsA1 s (length buffer)) 
 -- `read-written` and `written-read`). The one state that can write them is found by decoding. Bytes that no state writes decode to
 -- some state too, and that one writes others.
 
--- the phase of a phase number and its tries
+-- the phase of a phase number, 1 to 5, and its tries (any other number is read as a phase that writes 5)
 abbrev pub phaseOf : ℕ → ℕ → Phase
-phaseOf number t =
-    cond (eqb number (phaseNumber (Connecting t))) (Connecting t)
-    (cond (eqb number (phaseNumber (Contacting t))) (Contacting t)
-    (cond (eqb number (phaseNumber Open)) Open (cond (eqb number (phaseNumber (Lost t))) (Lost t) (Ending t))))
+phaseOf number t = getD (Ending t ∷ Connecting t ∷ Contacting t ∷ Open ∷ Lost t ∷ []) number (Ending t)
 
 abbrev pub directionOf : ℕ → Direction
 directionOf number = cond (eqb number (directionNumber Outgoing)) Outgoing Incoming
 
 -- "phase, direction, tries, partner"
 abbrev pub heldIn : List ℕ → Place
-heldIn s =
-    seat (directionOf (byte s 1)) (phaseOf (byte s 0) (byte s 2)) (partnerAt 3 s)
+heldIn s = seat (directionOf (byte s 1)) (phaseOf (byte s 0) (byte s 2)) (partnerAt 3 s)
 
 -- the place that the next seven bytes stand for: free where the phase is 0
 abbrev pub placeIn : List ℕ → Place
@@ -166,13 +142,6 @@ headSize = 8
 -- "the 36 old body bytes": the head and the places, which n and the last known RBC follow
 abbrev pub oldBodySize : ℕ
 oldBodySize = headSize + placeCount * placeSize
-
--- where the places and the last known RBC of an image begin
-abbrev pub placesAt : ℕ
-placesAt = 1 + headSize
-
-abbrev pub lastAt : ℕ
-lastAt = placesAt + placeCount * placeSize + 1
 
 -- the last known RBC that four bytes stand for: none where the first is 0
 abbrev pub lastIn : List ℕ → Last

@@ -19,7 +19,7 @@ use Rattle.unit.specs.declared.state.Train.{Train}
 use Rattle.unit.specs.declared.state.Marks.{Marks}
 use Rattle.unit.specs.declared.state.State.{State}
 use Rattle.image.specs.Images.{placeSize, placeBytes, headSize, oldBodySize, lastSize, lastBytes, imageA2, placeIn}
-use Rattle.image.specs.Images.{placesAt, lastAt, lastIn, stateIn, sameBytes, readA2}
+use Rattle.image.specs.Images.{lastIn, stateIn, sameBytes, readA2}
 use Rattle.image.specs.declared.rescue.Rescued.{Rescued}
 
 -- "Level, mission or a mark out of range becomes 0": a mark is read as 1 or not, so that one out of range is read as 0
@@ -80,9 +80,9 @@ fieldOffsets = 3 ∷ 4 ∷ 5 ∷ 6 ∷ 7 ∷ 8 ∷ 9 ∷ 16 ∷ 23 ∷ 30 ∷ 38
 abbrev pub mostFields : ℕ
 mostFields = 11
 
--- the bytes of the field that begins here
+-- the bytes of a listed field that begins here: behind kind and head those of a place, behind n those of the last RBC
 abbrev pub sizeOf : ℕ → ℕ
-sizeOf at = cond (leb placesAt at) (cond (leb lastAt at) lastSize placeSize) 1
+sizeOf at = cond (leb (1 + headSize) at) (cond (leb (2 + oldBodySize) at) lastSize placeSize) 1
 
 abbrev pub part : ℕ → List ℕ → List ℕ
 part at image = take (sizeOf at) (drop at image)

@@ -6,9 +6,10 @@ ghost use mathlib.Core.List.{[], _∷_, _++_};
 ghost use lib.ListN.{length, drop};
 ghost use lib.Seq.{sets};
 ghost use Rattle.unit.specs.States.{sound};
-ghost use Rattle.image.specs.Images.{placeBytes, headBytes, bodyBytes, tailBytes, imageA2};
+ghost use Rattle.image.specs.Images.{placeBytes, headBytes, bodyBytes, imageA2};
 ghost use Rattle.wire.specs.Bytes.{asBit};
-ghost use Rattle.image.specs.Images.{fitsA1, writeRefused, writeA2, imagedA2, writeA1, imagedA1};
+ghost use Rattle.image.specs.Images.{fitsA1, stored, writeA2, imagedA2, writeA1, imagedA1};
+ghost use Rattle.image.specs.Bodies.{tailBytes};
 use crate::layout::KIND_A1;
 use crate::layout::KIND_A2;
 use crate::layout::PLACE_SIZE;
@@ -173,7 +174,7 @@ pub(crate) fn put_image(s: &mut [u8], state: State)
 
 // What a refused write answers: the state as given, no byte written.
 fn refused(code: u8, state: State) -> Stored
-    ensures { λ r. ⌜ r ≡ writeRefused code state ⌝ }
+    ensures { λ r. ⌜ r ≡ stored code 0 state ⌝ }
 {
     Stored {
         code,

@@ -10,8 +10,8 @@ use lib.ListN.{length, replicate}
 use Rattle.onsight.specs.Cases.{byState}
 use Rattle.onsight.specs.Numbers.{accepted, notTakenHere}
 use Rattle.onsight.specs.Procedures.{cell, fresh, taken, step, serviceBrake}
-use Rattle.onsight.specs.Histories.{met, endOf, after}
-use Rattle.onsight.specs.HistoryWords.{codes, isAcknowledgement, unacknowledged}
+use Rattle.onsight.specs.Histories.{after}
+use Rattle.onsight.specs.HistoryWords.{met, codes, isAcknowledgement, unacknowledged}
 use Rattle.onsight.specs.declared.event.Event.{Event}
 use Rattle.onsight.specs.declared.event.Event.the-variants.{Acknowledgement, Expiry}
 use Rattle.onsight.specs.declared.procedure.State.{State}
@@ -51,18 +51,18 @@ module _ (es : List Event) (late : after fresh es ≡ Late) where
   pub late-brakes :
       (step (after fresh es) Expiry ≡ taken Braking)
       × (serviceBrake (after fresh (es ++ (Expiry ∷ []))) ≡ true)
-  unfolding met endOf
+  unfolding after
   late-brakes = (
     ap (λ s. step s Expiry) late ∙ late-answers .8,
     ap serviceBrake (after-append fresh es (Expiry ∷ []) ∙ ap (λ s. after s (Expiry ∷ [])) late),
   )
 
   expired : (fs : List Event) → after fresh (es ++ (Expiry ∷ fs)) ≡ after Braking fs
-  unfolding met endOf
+  unfolding after
   expired fs = after-append fresh es (Expiry ∷ fs) ∙ ap (λ s. after s (Expiry ∷ fs)) late
 
   codes-expired : (fs : List Event) → codes fresh (es ++ (Expiry ∷ fs)) ≡ codes fresh es ++ (accepted ∷ codes Braking fs)
-  unfolding met endOf
+  unfolding after met
   codes-expired fs = codes-append fresh es (Expiry ∷ fs) ∙ ap (λ s. codes fresh es ++ codes s (Expiry ∷ fs)) late
 
   -- while no acknowledgement comes
@@ -101,7 +101,7 @@ module _ (es : List Event) (late : after fresh es ≡ Late) where
     -- it gives Done
     -- promise
     pub acknowledged-done : after fresh (es ++ (Expiry ∷ (fs ++ (Acknowledgement ∷ [])))) ≡ Done
-    unfolding met endOf
+    unfolding after
     acknowledged-done =
         expired (fs ++ (Acknowledgement ∷ []))
         ∙ after-append Braking fs (Acknowledgement ∷ [])

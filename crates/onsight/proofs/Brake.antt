@@ -6,8 +6,8 @@ use mathlib.Core.List.{List, [], _∷_}
 use lib.Dec.{eqb}
 use Rattle.onsight.specs.Numbers.{accepted}
 use Rattle.onsight.specs.Procedures.{cell, fresh, serviceBrake}
-use Rattle.onsight.specs.Histories.{met, endOf, after}
-use Rattle.onsight.specs.HistoryWords.{acceptedOf, acceptedIn, lastIs, isLate, isExpiry, expiryInLate}
+use Rattle.onsight.specs.Histories.{after}
+use Rattle.onsight.specs.HistoryWords.{met, acceptedOf, acceptedIn, lastIs, isLate, isExpiry, expiryInLate}
 use Rattle.onsight.specs.declared.event.Event.{Event}
 use Rattle.onsight.specs.declared.procedure.State.{State}
 use Rattle.onsight.specs.declared.procedure.Cell.the-variants.{To}
@@ -20,7 +20,7 @@ brake-next : (s : State) (e : Event) (next : State)
 brake-next = taken-rule (λ s e next. serviceBrake next) (λ s e. isLate s && isExpiry e) refl
 
 brake-from : (s : State) (es : List Event) → serviceBrake (after s es) ≡ lastIs expiryInLate (serviceBrake s) (acceptedIn s es)
-unfolding met endOf acceptedOf lastIs
+unfolding after met acceptedOf lastIs
 brake-from s [] = refl
 brake-from s (e ∷ es) =
     by-cell

@@ -9,8 +9,8 @@ use native.Mathlib.Omega.{arith}
 use lib.ListN.{length, replicate}
 use Rattle.onsight.specs.Numbers.{notTakenHere}
 use Rattle.onsight.specs.Procedures.{cell, answered, step}
-use Rattle.onsight.specs.Histories.{met, endOf, after}
-use Rattle.onsight.specs.HistoryWords.{codes, every}
+use Rattle.onsight.specs.Histories.{after}
+use Rattle.onsight.specs.HistoryWords.{met, codes, every}
 use Rattle.onsight.specs.declared.event.Event.{Event}
 use Rattle.onsight.specs.declared.procedure.State.{State}
 use Rattle.onsight.specs.declared.procedure.Cell.{Cell}
@@ -19,7 +19,7 @@ use Rattle.onsight.proofs.Again.Meanings.{met-append, and-left, and-rig
 use Rattle.onsight.proofs.WholeTable.{drawn, onTaken, taken-rule, by-cell}
 
 pub after-append : (s : State) (es fs : List Event) → after s (es ++ fs) ≡ after (after s es) fs
-unfolding met endOf
+unfolding after
 after-append s [] fs = refl
 after-append s (e ∷ es) fs = after-append (step s e .state) es fs
 
@@ -41,7 +41,7 @@ NoneTaken s es = (codes s es ≡ replicate (length es) notTakenHere) × (after s
 -- so it is where a state takes none of the events that pass a test, and all pass it
 module _ (s : State) (test : Event → Bool) (shut : (e : Event) → test e ≡ true → cell s e ≡ No) where
   pub none-taken : (es : List Event) → every test es ≡ true → NoneTaken s es
-  unfolding met endOf every
+  unfolding after met every
   none-taken [] h = (refl, refl)
   none-taken (e ∷ es) h =
       by (cell s e) (shut e (and-left (test e) (every test es) h)) (none-taken es (and-right (test e) (every test es) h))
@@ -69,7 +69,7 @@ module _
         ∙ taken-rule (λ s e next. cond (test s) (test next) true) (λ s e. true) keeps s e next gives
 
     pub kept : (s : State) → test s ≡ true → (es : List Event) → test (after s es) ≡ true
-    unfolding met endOf
+    unfolding after
     kept s h [] = h
     kept s h (e ∷ es) =
         kept (step s e .state) (by-cell (λ a. test (a .state) ≡ true) s (cell s e) (λ is. h) (next-kept s e h)) es

@@ -7,8 +7,8 @@ use lib.Dec.{eqb}
 use lib.ListN.{length, replicate}
 use Rattle.onsight.specs.Numbers.{accepted, notTakenHere}
 use Rattle.onsight.specs.Procedures.{cell, fresh, osInForce, serviceBrake}
-use Rattle.onsight.specs.Histories.{met, endOf, after}
-use Rattle.onsight.specs.HistoryWords.{codes, acceptedOf, acceptedIn, anyIs, isDone, bringsOS, ends}
+use Rattle.onsight.specs.Histories.{after}
+use Rattle.onsight.specs.HistoryWords.{met, codes, acceptedOf, acceptedIn, anyIs, isDone, bringsOS, ends}
 use Rattle.onsight.specs.declared.event.Event.{Event}
 use Rattle.onsight.specs.declared.procedure.State.{State}
 use Rattle.onsight.specs.declared.procedure.State.the-variants.{Done}
@@ -24,7 +24,7 @@ module _
     (bringing : drawn (λ s e. onTaken asked (asked s || brings e) (cell s e)) ≡ drawn (λ s e. asked s || brings e))
   where
     any-from : (s : State) (es : List Event) → asked (after s es) ≡ anyIs brings (asked s) (acceptedIn s es)
-    unfolding met endOf acceptedOf anyIs
+    unfolding after met acceptedOf anyIs
     any-from s [] = refl
     any-from s (e ∷ es) =
         by-cell

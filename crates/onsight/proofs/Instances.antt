@@ -12,8 +12,8 @@ use native.Mathlib.Omega.{arith}
 use lib.ListN.{replicate}
 use Rattle.onsight.specs.Numbers.{eventNumber}
 use Rattle.onsight.specs.Procedures.{fresh, step, osInForce, serviceBrake}
-use Rattle.onsight.specs.Histories.{Met, met, endOf, after}
-use Rattle.onsight.specs.HistoryWords.{codes, acceptedIn, acceptedOf, anyIs, every, isIdle, isProfile, bringsOS}
+use Rattle.onsight.specs.Histories.{after}
+use Rattle.onsight.specs.HistoryWords.{Met, met, codes, acceptedIn, acceptedOf, anyIs, every, isIdle, isProfile, bringsOS}
 use Rattle.onsight.specs.Instances.{lateAtOnce, lateByAsked, silence}
 use Rattle.onsight.specs.declared.event.Area.{Area}
 use Rattle.onsight.specs.declared.event.Area.the-variants.{Ahead, Entered}
@@ -38,7 +38,7 @@ pub late-brakes-shown :
     × (serviceBrake (after fresh (lateAtOnce ++ (Expiry ∷ []))) ≡ true)
     × (step (after fresh lateByAsked) Expiry ≡ record { code = 0; state = Braking })
     × (serviceBrake (after fresh (lateByAsked ++ (Expiry ∷ []))) ≡ true)
-unfolding met endOf
+unfolding after
 late-brakes-shown = (
   late-brakes lateAtOnce refl .0,
   late-brakes lateAtOnce refl .1,
@@ -53,7 +53,7 @@ pub expired-codes-shown :
     ≡ (0 ∷ 0 ∷ replicate 15 14))
     × (codes fresh (lateByAsked ++ (Expiry ∷ silence))
     ≡ (14 ∷ 14 ∷ 0 ∷ 14 ∷ 14 ∷ 0 ∷ 14 ∷ 14 ∷ 0 ∷ 14 ∷ 0 ∷ replicate 15 14))
-unfolding met endOf every
+unfolding after met every
 expired-codes-shown = (
   expired-codes lateAtOnce refl silence refl,
   expired-codes lateByAsked refl silence refl,
@@ -64,7 +64,7 @@ expired-codes-shown = (
 pub expired-stays-shown :
     (after fresh (lateAtOnce ++ (Expiry ∷ silence)) ≡ Braking)
     × (after fresh (lateByAsked ++ (Expiry ∷ silence)) ≡ Braking)
-unfolding met endOf every
+unfolding after every
 expired-stays-shown = (
   expired-stays lateAtOnce refl silence refl,
   expired-stays lateByAsked refl silence refl,
@@ -75,7 +75,7 @@ expired-stays-shown = (
 pub expired-brakes-shown :
     (serviceBrake (after fresh (lateAtOnce ++ (Expiry ∷ silence))) ≡ true)
     × (serviceBrake (after fresh (lateByAsked ++ (Expiry ∷ silence))) ≡ true)
-unfolding met endOf every
+unfolding after every
 expired-brakes-shown = (
   expired-brakes lateAtOnce refl silence refl,
   expired-brakes lateByAsked refl silence refl,
@@ -88,7 +88,7 @@ pub acknowledged-codes-shown :
     ≡ (0 ∷ 0 ∷ (replicate 15 14 ++ (0 ∷ []))))
     × (codes fresh (lateByAsked ++ (Expiry ∷ (silence ++ (Acknowledgement ∷ []))))
     ≡ (14 ∷ 14 ∷ 0 ∷ 14 ∷ 14 ∷ 0 ∷ 14 ∷ 14 ∷ 0 ∷ 14 ∷ 0 ∷ (replicate 15 14 ++ (0 ∷ []))))
-unfolding met endOf every
+unfolding after met every
 acknowledged-codes-shown = (
   acknowledged-codes lateAtOnce refl silence refl,
   acknowledged-codes lateByAsked refl silence refl,
@@ -99,7 +99,7 @@ acknowledged-codes-shown = (
 pub acknowledged-done-shown :
     (after fresh (lateAtOnce ++ (Expiry ∷ (silence ++ (Acknowledgement ∷ [])))) ≡ Done)
     × (after fresh (lateByAsked ++ (Expiry ∷ (silence ++ (Acknowledgement ∷ [])))) ≡ Done)
-unfolding met endOf every
+unfolding after every
 acknowledged-done-shown = (
   acknowledged-done lateAtOnce refl silence refl,
   acknowledged-done lateByAsked refl silence refl,
@@ -110,7 +110,7 @@ acknowledged-done-shown = (
 pub acknowledged-released-shown :
     (serviceBrake (after fresh (lateAtOnce ++ (Expiry ∷ (silence ++ (Acknowledgement ∷ []))))) ≡ false)
     × (serviceBrake (after fresh (lateByAsked ++ (Expiry ∷ (silence ++ (Acknowledgement ∷ []))))) ≡ false)
-unfolding met endOf every
+unfolding after every
 acknowledged-released-shown = (
   acknowledged-released lateAtOnce refl silence refl,
   acknowledged-released lateByAsked refl silence refl,
@@ -121,7 +121,7 @@ acknowledged-released-shown = (
 pub expired-never-late-shown :
     (after fresh (lateAtOnce ++ (Expiry ∷ silence)) ≢ Late)
     × (after fresh (lateByAsked ++ (Expiry ∷ (silence ++ (Acknowledgement ∷ silence)))) ≢ Late)
-unfolding met endOf
+unfolding after
 expired-never-late-shown = (
   expired-never-late lateAtOnce refl silence,
   expired-never-late lateByAsked refl (silence ++ (Acknowledgement ∷ silence)),
@@ -136,7 +136,7 @@ pub expired-only-acknowledgement-shown :
     × (step (after fresh (lateByAsked ++ (Expiry ∷ silence))) Window .code ≢ 0)
     × (step (after fresh (lateByAsked ++ (Expiry ∷ silence))) Start .code ≢ 0)
     × (step (after fresh (lateByAsked ++ (Expiry ∷ silence))) Expiry .code ≢ 0)
-unfolding met endOf
+unfolding after
 expired-only-acknowledgement-shown = (
   refl,
   (λ h. let z = ap eventNumber (expired-only-acknowledgement lateByAsked refl silence (Profile Ahead Another) h) in omega arith),
@@ -153,7 +153,7 @@ pub done-in-force-shown :
     × (anyIs bringsOS false (acceptedIn fresh (Profile Entered OS ∷ [])) ≡ true)
     × (osInForce (after fresh (lateByAsked ++ (Expiry ∷ (silence ++ (Acknowledgement ∷ silence))))) ≡ true)
     × (anyIs bringsOS false (acceptedIn fresh (lateByAsked ++ (Expiry ∷ (silence ++ (Acknowledgement ∷ silence))))) ≡ true)
-unfolding met endOf
+unfolding after met
 done-in-force-shown = (
   done-in-force (Profile Entered OS ∷ []) refl .0,
   done-in-force (Profile Entered OS ∷ []) refl .1,
@@ -166,7 +166,7 @@ done-in-force-shown = (
 pub brake-in-force-shown :
     (osInForce (after fresh (lateByAsked ++ (Expiry ∷ silence))) ≡ true)
     × (anyIs bringsOS false (acceptedIn fresh (lateByAsked ++ (Expiry ∷ silence))) ≡ true)
-unfolding met endOf
+unfolding after met
 brake-in-force-shown = (
   brake-in-force (lateByAsked ++ (Expiry ∷ silence)) refl .0,
   brake-in-force (lateByAsked ++ (Expiry ∷ silence)) refl .1,
@@ -177,7 +177,7 @@ brake-in-force-shown = (
 pub in-force-stays-shown :
     (osInForce (after fresh (lateAtOnce ++ silence)) ≡ true)
     × (osInForce (after fresh (lateByAsked ++ (silence ++ (Acknowledgement ∷ silence)))) ≡ true)
-unfolding met endOf
+unfolding after
 in-force-stays-shown = (
   in-force-stays lateAtOnce silence refl,
   in-force-stays lateByAsked (silence ++ (Acknowledgement ∷ silence)) refl,
@@ -188,14 +188,14 @@ in-force-stays-shown = (
 pub done-codes-shown :
     codes fresh ((Profile Ahead SB ∷ Window ∷ Acknowledgement ∷ []) ++ (silence ++ (Acknowledgement ∷ silence)))
     ≡ (0 ∷ 0 ∷ 0 ∷ replicate 31 14)
-unfolding met endOf
+unfolding after met
 done-codes-shown = done-codes (Profile Ahead SB ∷ Window ∷ Acknowledgement ∷ []) (silence ++ (Acknowledgement ∷ silence)) refl
 
 -- and the state stays Done
 -- instance
 pub done-stays-shown :
     after fresh ((Profile Ahead SB ∷ Window ∷ Acknowledgement ∷ []) ++ (silence ++ (Acknowledgement ∷ silence))) ≡ Done
-unfolding met endOf
+unfolding after
 done-stays-shown = done-stays (Profile Ahead SB ∷ Window ∷ Acknowledgement ∷ []) (silence ++ (Acknowledgement ∷ silence)) refl
 
 -- a profile taken in Idle, an acknowledgement taken in Asked; and the window, in Idle, not
@@ -261,28 +261,28 @@ pub expired-plainly-shown :
     ≡ (14 ∷ 14 ∷ 0 ∷ 14 ∷ 14 ∷ 0 ∷ 14 ∷ 14 ∷ 0 ∷ 14 ∷ 0 ∷ (replicate 15 14 ++ (0 ∷ []))))
     × (after fresh (lateByAsked ++ (Expiry ∷ silence)) ≡ Braking)
     × (after fresh (lateByAsked ++ (Expiry ∷ (silence ++ (Acknowledgement ∷ [])))) ≡ Done)
-unfolding met endOf every
+unfolding after met every
 expired-plainly-shown = expired-plainly lateByAsked silence Window refl (unacknowledged-means silence Window .0 refl)
 
 -- the start, ninth of ten, brings OS
 -- instance
 pub in-force-exactly-shown :
     osInForce (after fresh lateByAsked) ≡ true
-unfolding met endOf
+unfolding after
 in-force-exactly-shown = in-force-exactly lateByAsked Window .1 (8, (omega arith, (refl, inr (inr (inl refl)))))
 
 -- the area entered in OS ends the procedure, whatever follows
 -- instance
 pub done-exactly-shown :
     after fresh (Window ∷ Profile Entered OS ∷ silence) ≡ Done
-unfolding met endOf
+unfolding after
 done-exactly-shown = done-exactly (Window ∷ Profile Entered OS ∷ silence) Window .1 (1, (omega arith, (refl, inl refl)))
 
 -- the area entered in another mode, the expiry, and then silence
 -- instance
 pub brake-exactly-shown :
     serviceBrake (after fresh (lateAtOnce ++ (Expiry ∷ silence))) ≡ true
-unfolding met endOf acceptedOf
+unfolding after met acceptedOf
 brake-exactly-shown =
     let first : Met = record { state = Idle; event = Profile Entered Another; answer = step Idle (Profile Entered Another) } in
     let last : Met = record { state = Late; event = Expiry; answer = step Late Expiry } in

@@ -10,8 +10,8 @@ use lib.ListN.{length}
 use borrow.Author.Tests.{ltb-true}
 use Rattle.onsight.specs.Numbers.{accepted}
 use Rattle.onsight.specs.Procedures.{cell, fresh}
-use Rattle.onsight.specs.Histories.{met, endOf, after}
-use Rattle.onsight.specs.HistoryWords.{acceptedOf, acceptedIn, mostAccepted, longest, wayTo, wayToDone}
+use Rattle.onsight.specs.Histories.{after}
+use Rattle.onsight.specs.HistoryWords.{met, acceptedOf, acceptedIn, mostAccepted, longest, wayTo, wayToDone}
 use Rattle.onsight.specs.declared.event.Event.{Event}
 use Rattle.onsight.specs.declared.procedure.State.{State}
 use Rattle.onsight.specs.declared.procedure.State.the-variants.{Idle, Waiting, Asked, Late, Braking, Done}
@@ -63,7 +63,7 @@ longest-accepted = refl
 -- every state is reached from a fresh Idle
 -- promise
 pub wayTo-reaches : (s : State) → after fresh (wayTo s) ≡ s
-unfolding met endOf
+unfolding after
 wayTo-reaches Idle = refl
 wayTo-reaches Waiting = refl
 wayTo-reaches Asked = refl
@@ -74,7 +74,7 @@ wayTo-reaches Done = refl
 -- from every state a history leads to Done
 -- promise
 pub wayToDone-done : (s : State) → after s (wayToDone s) ≡ Done
-unfolding met endOf
+unfolding after
 wayToDone-done Idle = refl
 wayToDone-done Waiting = refl
 wayToDone-done Asked = refl

@@ -11,8 +11,8 @@ use lib.Dec.{eqb}
 use lib.ListN.{length, getD, take, replicate}
 use borrow.Author.Tests.{eqb-true, eq-eqb}
 use Rattle.onsight.specs.Procedures.{fresh, step, osInForce, serviceBrake}
-use Rattle.onsight.specs.Histories.{Met, met, after}
-use Rattle.onsight.specs.HistoryWords.{codes, acceptedOf, acceptedIn, lastIs, anyIs, isDone, expiryInLate, bringsOS, ends}
+use Rattle.onsight.specs.Histories.{after}
+use Rattle.onsight.specs.HistoryWords.{Met, met, codes, acceptedOf, acceptedIn, lastIs, anyIs, isDone, expiryInLate, bringsOS, ends}
 use Rattle.onsight.specs.declared.event.Area.{Area}
 use Rattle.onsight.specs.declared.event.Area.the-variants.{Entered}
 use Rattle.onsight.specs.declared.event.Mode.{Mode}

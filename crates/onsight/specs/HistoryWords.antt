@@ -1,21 +1,38 @@
 -- Cross-checks only: nobody has to believe what stands here.
--- Further words on histories of request Q-1: answers, accepted events, tests on a state and on an event, and histories that are as long
--- as can be.
--- Defines: codes, acceptedOf, acceptedIn, lastIs, anyIs, isIdle, isLate, isDone, isProfile, isExpiry, isAcknowledgement, expiryInLate,
--- ends, bringsOS, asksForAcknowledgement, every, unacknowledged, mostAccepted, longest, wayTo, wayToDone.
+-- Further words on histories of request Q-1: what each event met, answers, accepted events, tests on a state and on an event, and
+-- histories that are as long as can be.
+-- Defines: Met, met, endOf, codes, acceptedOf, acceptedIn, lastIs, anyIs, isIdle, isLate, isDone, isProfile, isExpiry,
+-- isAcknowledgement, expiryInLate, ends, bringsOS, asksForAcknowledgement, every, unacknowledged, mostAccepted, longest, wayTo, wayToDone.
 use Prim.Native.Nat.{ℕ}
 use mathlib.Core.Bool.{Bool, true, false, cond, _&&_, _||_, not}
 use mathlib.Core.List.{List, [], _∷_, map}
 use lib.Dec.{eqb}
 use Rattle.onsight.specs.Cases.{byState, byProfile, byEvent}
 use Rattle.onsight.specs.Numbers.{accepted}
+use Rattle.onsight.specs.Procedures.{step}
 use Rattle.onsight.specs.declared.event.Area.the-variants.{Ahead, Entered}
 use Rattle.onsight.specs.declared.event.Mode.the-variants.{OS, SB, Another}
 use Rattle.onsight.specs.declared.event.Event.{Event}
 use Rattle.onsight.specs.declared.event.Event.the-variants.{Profile, Window, Start, Acknowledgement, Expiry}
 use Rattle.onsight.specs.declared.procedure.State.{State}
 use Rattle.onsight.specs.declared.procedure.State.the-variants.{Idle, Waiting, Asked, Late, Braking, Done}
-use Rattle.onsight.specs.Histories.{Met, met}
+use Rattle.onsight.specs.declared.procedure.Answer.{Answer}
+
+-- one event of a history with the state that it met and what was answered
+pub record Met : Type 0 where
+  pub state : State
+  pub event : Event
+  pub answer : Answer
+
+-- the events of a history from a state, each with what it met
+unfoldable pub met : State → List Event → List Met
+met s [] = []
+met s (e ∷ es) = record { state = s; event = e; answer = step s e } ∷ met (step s e .state) es
+
+-- the state that the last one left; where there is none, the one before
+unfoldable pub endOf : State → List Met → State
+endOf s [] = s
+endOf s (m ∷ ms) = endOf (m .answer .state) ms
 
 -- 0 or 14 for each event of a history
 abbrev pub codes : State → List Event → List ℕ

@@ -1,5 +1,5 @@
 -- Document 02, request Q-1: the On-Sight procedure drawn as a table, a row for each state and a column for each event; one step.
--- Defines: Row, row, column, cell, fresh, taken, refused, answered, step, osInForce, serviceBrake.
+-- Defines: cell, fresh, taken, refused, answered, step, osInForce, serviceBrake.
 use mathlib.Core.Bool.{Bool, true, false}
 use Rattle.onsight.specs.Cases.{byState, byProfile, byEvent}
 use Rattle.onsight.specs.Numbers.{accepted, notTakenHere}
@@ -10,46 +10,23 @@ use Rattle.onsight.specs.declared.procedure.Cell.{Cell}
 use Rattle.onsight.specs.declared.procedure.Cell.the-variants.{No, To}
 use Rattle.onsight.specs.declared.procedure.Answer.{Answer}
 
--- a row of the table: for each event, in the order of Q-1, that it is not taken, or the state that it gives
-pub record Row : Type 0 where
-  -- a profile, the area ahead
-  pub ahead : Cell
-  -- a profile, the area entered, for OS
-  pub OS : Cell
-  -- a profile, the area entered, for SB or PT
-  pub SB-PT : Cell
-  -- a profile, the area entered, for another mode
-  pub other : Cell
-  -- front and speed in the window
-  pub window : Cell
-  -- the safe front passing the start
-  pub start : Cell
-  -- driver acknowledgement
-  pub driver : Cell
-  -- timer expiry
-  pub timer : Cell
-
-abbrev pub row : State → Row
--- "Idle takes only this: ahead gives Waiting; entered gives Done for OS, Asked for SB or PT, Late for another."
-row Idle = record { ahead = To Waiting; OS = To Done; SB-PT = To Asked; other = To Late; window = No; start = No; driver = No; timer = No }
--- "Waiting: front and speed in the window gives Asked. Waiting and Asked: the safe front passing the start gives Late."
-row Waiting = record { ahead = No; OS = No; SB-PT = No; other = No; window = To Asked; start = To Late; driver = No; timer = No }
--- "Waiting and Asked: the safe front passing the start gives Late. Asked, Late and Braking: driver acknowledgement gives Done."
-row Asked = record { ahead = No; OS = No; SB-PT = No; other = No; window = No; start = To Late; driver = To Done; timer = No }
--- "Asked, Late and Braking: driver acknowledgement gives Done. Late: timer expiry gives Braking."
-row Late = record { ahead = No; OS = No; SB-PT = No; other = No; window = No; start = No; driver = To Done; timer = To Braking }
--- "Asked, Late and Braking: driver acknowledgement gives Done."
-row Braking = record { ahead = No; OS = No; SB-PT = No; other = No; window = No; start = No; driver = To Done; timer = No }
--- no sentence names an event that Done takes
-row Done = record { ahead = No; OS = No; SB-PT = No; other = No; window = No; start = No; driver = No; timer = No }
-
--- the column that an event stands in
-abbrev pub column : Event → Row → Cell
-column e r = byEvent (byProfile (r .ahead) (r .OS) (r .SB-PT) (r .other)) (r .window) (r .start) (r .driver) (r .timer) e
-
--- the cell at a state and an event
+-- the table: a row for each state; a column for each event, in the order of Q-1: a profile (the area ahead; entered, for OS, for SB or PT,
+-- for another mode), front and speed in the window, the safe front passing the start, driver acknowledgement, timer expiry
 abbrev pub cell : State → Event → Cell
-cell s e = column e (row s)
+cell =
+    byState
+    -- Idle: "Idle takes only this: ahead gives Waiting; entered gives Done for OS, Asked for SB or PT, Late for another."
+    (byEvent (byProfile (To Waiting) (To Done) (To Asked) (To Late)) No No No No)
+    -- Waiting: "Waiting: front and speed in the window gives Asked. Waiting and Asked: the safe front passing the start gives Late."
+    (byEvent (λ area mode. No) (To Asked) (To Late) No No)
+    -- Asked: "Waiting and Asked: the safe front passing the start gives Late. Asked, Late and Braking: driver acknowledgement gives Done."
+    (byEvent (λ area mode. No) No (To Late) (To Done) No)
+    -- Late: "Asked, Late and Braking: driver acknowledgement gives Done. Late: timer expiry gives Braking."
+    (byEvent (λ area mode. No) No No (To Done) (To Braking))
+    -- Braking: "Asked, Late and Braking: driver acknowledgement gives Done."
+    (byEvent (λ area mode. No) No No (To Done) No)
+    -- Done: no sentence names an event that Done takes
+    (byEvent (λ area mode. No) No No No No)
 
 -- "The next procedure starts from a fresh Idle."
 abbrev pub fresh : State

@@ -153,5 +153,4 @@ closedBy which place = onHolding Stays (λ d ph p. cond (closes which ph p) (clo
 
 -- a turn as the code hands it on: whether it is taken, the numbers of its actions with 0 for none, and the place after it
 unfoldable pub turnedTo : Place → Turn → Turned
-turnedTo place t =
-    record { taken = takes t; first = getD (numbers t) 0 0; second = getD (numbers t) 1 0; place = placeAfter place t }
+turnedTo place t = record { taken = takes t; first = getD (numbers t) 0 0; second = getD (numbers t) 1 0; place = placeAfter place t }

@@ -86,8 +86,7 @@ partnerRow e = row 5 (λ s. namedOk (partnerIn s)) (λ s. Named (partnerIn s) e)
 -- "number 32, 38 or 39"; "Version is 0..127 for message 32 (16·X + Y) and must be 0 for 38 and 39"
 abbrev pub messageOk : ℕ → ℕ → Bool
 messageOk number version =
-    cond (eqb number messageVersion) (leb version highestVersion)
-    ((eqb number messageCall || eqb number messageEnded) && eqb version 0)
+    cond (eqb number messageVersion) (leb version highestVersion) ((eqb number messageCall || eqb number messageEnded) && eqb version 0)
 
 abbrev pub messageMeans : ℕ → ℕ → Partner → Event
 messageMeans number version p =

@@ -17,7 +17,7 @@ use Rattle.record.specs.declared.event.Reading.the-variants.{Meant, Refused}
 use Rattle.record.proofs.Ranges.{reading-ok}
 use Rattle.place.specs.declared.limits.Limits.{Limits}
 use Rattle.wire.specs.Sums.{sum}
-use Rattle.unit.specs.OnRecords.{actionRoom, onReading, applied, onRecord, trace}
+use Rattle.unit.specs.OnRecords.{actionRoom, onReading, applied, onRecord}
 use Rattle.unit.specs.States.{limitsOk, sound, cold, coldStart, noLimits}
 use Rattle.unit.specs.Steps.{Outcome, refused, step}
 use Rattle.unit.specs.declared.start.Started.{Started}
@@ -25,7 +25,7 @@ use Rattle.unit.specs.declared.state.State.{State}
 use Rattle.unit.proofs.Facts.{sound-facts}
 use Rattle.unit.proofs.Sound.{step-sound, onRecord-sound}
 use Rattle.unit.proofs.Starts.{cold-sound}
-use Rattle.history.specs.Histories.{endOf, after}
+use Rattle.history.specs.Histories.{after}
 use Rattle.sets.specs.Members.{allOf, apart}
 use Rattle.sets.specs.SixSets.{Sets, size, everyone, membersOk, soundSets, unpacked, packedSets, setReady, coldSets}
 use Rattle.sets.specs.SixSets.{setCold, setStart}
@@ -183,7 +183,7 @@ alike-next s b bytes room alike =
 
 -- and along a history
 pub alike-after : (s : State) (b : SetState) (history : List (List ℕ)) → Alike s b → Alike (after s history) (setAfter b history)
-unfolding after endOf trace setAfter
+unfolding after setAfter
 alike-after s b [] alike = alike
 alike-after s b (bytes ∷ history) alike =
     alike-after (onRecord s bytes actionRoom .state) (onSets b bytes actionRoom .state) history (alike-next s b bytes actionRoom alike)

@@ -25,7 +25,7 @@ use Rattle.place.specs.declared.place.Place.{Place}
 use Rattle.unit.specs.Kept.{count, here}
 use Rattle.wire.specs.Sums.{sum}
 use Rattle.wire.specs.Bytes.{asBit}
-use Rattle.unit.specs.OnRecords.{actionRoom, onRecord, trace}
+use Rattle.unit.specs.OnRecords.{actionRoom, onRecord}
 use Rattle.unit.specs.States.{some, coldStart}
 use Rattle.unit.specs.Steps.{Outcome}
 use Rattle.unit.specs.declared.answer.Action.{Action}
@@ -33,8 +33,8 @@ use Rattle.unit.specs.declared.state.State.{State}
 use Rattle.unit.proofs.Counts.{count-all}
 use Rattle.unit.proofs.Searches.{first-none, none-some}
 use Rattle.unit.proofs.Weights.{weigh-same}
-use Rattle.history.specs.Histories.{after, sumOver, summed, isOrder, isCall, isLoss, orders, calls, losses, actions, isRelease}
-use Rattle.history.specs.Histories.{placesHeld, eventNames, ofReading, timeoutFor, silent, timeouts, holdsPlace, waitingPhase}
+use Rattle.history.specs.Histories.{after, summed, isOrder, isCall, isLoss, orders, calls, losses, actions, isRelease}
+use Rattle.history.specs.Histories.{placesHeld, timeoutFor, silent, timeouts, holdsPlace, waitingPhase}
 use Rattle.history.specs.Histories.{waitsAt, waits}
 use Rattle.history.specs.Histories.{releaseOf}
 use Rattle.history.specs.PerEvent.{perOrder, perCall, perLoss, timeoutsToRelease}
@@ -42,6 +42,7 @@ use Rattle.history.specs.Reaching.{reaching}
 use Rattle.history.specs.Sums.{sumsOf, counts}
 use Rattle.unit.specs.States.{oneToTwo}
 use Rattle.history.proofs.Bounds.{bound}
+use Rattle.history.proofs.Concerned.{namedBy}
 use Rattle.history.proofs.Counted.{and-true}
 use Rattle.history.proofs.Reached.{reached, demand-reached}
 use Rattle.history.proofs.TakenIn.{taken-in}
@@ -99,7 +100,7 @@ same-sums : (f : State → List ℕ → Outcome → ℕ) (g : SetState → List 
     → (s : State) (b : SetState) (history : List (List ℕ))
     → Alike s b
     → summed f s history ≡ setSum g b history
-unfolding summed sumOver trace setSum
+unfolding summed setSum
 same-sums f g each s b [] alike = refl
 same-sums f g each s b (bytes ∷ history) alike =
     ap₂ _+_ (each s b bytes alike)
@@ -309,7 +310,7 @@ silent-same : (p : Partner) (s : State) (b : SetState) (history : List (List ℕ
 unfolding silent setSilent unpacked
 silent-same p s b [] alike = refl
 silent-same p s b (bytes ∷ history) alike =
-    ap₂ (λ last rest. (not (ofReading (eventNames p last) (reading bytes)) || timeoutFor p bytes) && rest) (alike .same .last)
+    ap₂ (λ last rest. (not (namedBy p last (reading bytes)) || timeoutFor p bytes) && rest) (alike .same .last)
     (silent-same p (onRecord s bytes actionRoom .state) (onSets b bytes actionRoom .state) history
     (alike-next s b bytes actionRoom alike))
 

@@ -3,16 +3,18 @@
 -- Defines: setAfter, setSum, setAccepted, setOrders, setCalls, setLosses, setActions, setReleases, membersHeld, isMember, setWaits,
 -- setNames, setSilent, setReleasesOf, setSums.
 use Prim.Native.Nat.{ℕ, _+_}
-use mathlib.Core.Bool.{Bool, true, _&&_, _||_, not}
+use mathlib.Core.Bool.{Bool, true, false, _&&_, _||_, not}
 use mathlib.Core.List.{List, [], _∷_}
 use lib.Dec.{eqb}
 use lib.ListN.{length}
 use Rattle.wire.specs.Refusals.{accepted}
+use Rattle.record.specs.Partners.{samePartner}
 use Rattle.record.specs.Records.{reading}
 use Rattle.record.specs.declared.partner.Partner.{Partner}
 use Rattle.unit.specs.Kept.{count}
 use Rattle.unit.specs.OnRecords.{actionRoom}
-use Rattle.history.specs.Histories.{isOrder, isCall, isLoss, isRelease, releaseOf, eventNames, ofReading, timeoutFor}
+use Rattle.unit.specs.Standings.{byConcern, concernOf}
+use Rattle.history.specs.Histories.{isOrder, isCall, isLoss, isRelease, releaseOf, timeoutFor}
 use Rattle.wire.specs.Bytes.{asBit}
 use Rattle.history.specs.Sums.{Sums}
 use Rattle.unit.specs.States.{oneToTwo}
@@ -68,7 +70,7 @@ setWaits p b =
 
 -- "is from then on named by nothing but timeouts"
 abbrev pub setNames : Partner → SetState → List ℕ → Bool
-setNames p b bytes = ofReading (eventNames p (b .last)) (reading bytes)
+setNames p b bytes = byConcern false (samePartner p) (samePartner p) (λ q f. samePartner p q) (concernOf (b .last) (reading bytes))
 
 unfoldable pub setSilent : Partner → SetState → List (List ℕ) → Bool
 setSilent p b [] = true

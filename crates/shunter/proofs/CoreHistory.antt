@@ -16,14 +16,14 @@ use Rattle.place.specs.Table.{request}
 use Rattle.place.specs.declared.limits.Limits.{Limits}
 use Rattle.place.specs.declared.place.Place.{Place}
 use Rattle.unit.specs.Concerns.{actionFor}
-use Rattle.unit.specs.OnRecords.{actionRoom, trace}
+use Rattle.unit.specs.OnRecords.{actionRoom}
 use Rattle.unit.specs.Standings.{Concern}
 use Rattle.unit.specs.States.{coldStart}
 use Rattle.unit.specs.Steps.{Outcome, act}
 use Rattle.unit.specs.declared.state.State.{State}
 use Rattle.unit.proofs.Again.Refusals.{onRecord-kept}
 use Rattle.unit.proofs.Counts.{count-all}
-use Rattle.history.specs.Histories.{endOf, after, sumOver, summed, orders, calls, losses, actions, releases, placesHeld}
+use Rattle.history.specs.Histories.{after, summed, orders, calls, losses, actions, releases, placesHeld}
 use Rattle.history.specs.PerEvent.{perOrder, perCall, perLoss, timeoutsToRelease}
 use Rattle.history.specs.Histories.{waits, silent, timeouts, holdsPlace}
 use Rattle.history.proofs.Bounds.{bound}
@@ -71,7 +71,7 @@ module _ (h : Shunter) (bytes : List ℕ) (good : ready h ≡ true) where
 pub core-after : (h : Shunter) (history : List (List ℕ))
     → ready h ≡ true
     → shunterAfter h history .state ≡ after (h .state) (reached h history)
-unfolding shunterAfter reached after endOf trace
+unfolding shunterAfter reached after
 core-after h [] good = refl
 core-after h (bytes ∷ history) good =
     core-after next history (shunt-ready h bytes actionRoom good)
@@ -187,7 +187,7 @@ pub went-out : (h : Shunter) (history : List (List ℕ))
     → ready h ≡ true
     → wentOut h history + length (waiting (shunterAfter h history .queue))
     ≤ actions (h .state) (reached h history) + length (waiting (h .queue))
-unfolding shunterAfter shunterSum reached summed sumOver trace
+unfolding shunterAfter shunterSum reached summed
 went-out h [] good = omega arith
 went-out h (bytes ∷ history) good =
     by (reaches x) (step-length h bytes good) (core-step h bytes good) (went-out next history (shunt-ready h bytes actionRoom good))

@@ -11,10 +11,10 @@ use Rattle.record.specs.Records.{reading}
 use Rattle.place.specs.Table.{turn}
 use Rattle.unit.specs.Kept.{count}
 use Rattle.unit.specs.Lasts.{recalled, rbcOf}
-use Rattle.unit.specs.OnRecords.{onRecord, trace}
+use Rattle.unit.specs.OnRecords.{onRecord}
 use Rattle.unit.specs.States.{some, first, seek, placesOk, sound, cold, coldStart}
 use Rattle.unit.specs.Steps.{closed, closingActions, step}
-use Rattle.history.specs.Histories.{sumOver, summed, silent, timeouts, holdsPlace}
+use Rattle.history.specs.Histories.{summed, silent, timeouts, holdsPlace}
 use Rattle.shunter.specs.Queues.{waiting, queued, among, every, distinct, sumTo, modemsHeld, queueOk, rulesHold, ready, coldShunter}
 use Rattle.shunter.specs.Shunting.{kept, waitsFor, lineUp, sends, passed, onConcern, applying, shunt}
 use Rattle.shunter.specs.ShunterHistories.{shunterAfter, shunterSum, modemReleases, ahead, waitsThrough}
@@ -125,7 +125,7 @@ shown-released = released-only waits-fourth (dropRbc 4) 3 good-fourth refl refl
 -- four actions went out of the five that the core sent to the records that reached it: the order's 21 that was held back went out later
 -- instance
 pub shown-out : wentOut fitted threePartners ≤ 5
-unfolding summed sumOver trace reached shunterSum shunterAfter shunt applying onConcern passed sends lineUp kept waitsFor modemsHeld
+unfolding summed reached shunterSum shunterAfter shunt applying onConcern passed sends lineUp kept waitsFor modemsHeld
     sumTo among queueOk every distinct rulesHold ready waiting queued coldShunter coldStart cold sound placesOk some first seek reading turn
     step closed closingActions recalled onRecord blocks
 shown-out = cold-went-out fittedLimits threePartners

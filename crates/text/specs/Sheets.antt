@@ -37,15 +37,12 @@ sheetBudget = 4096
 -- "one line a record (number from 1, kind, 0 or refusal, each action ..), and `end`, stop, records read", after so many records
 unfoldable pub courseText : ℕ → Course → List ℕ
 courseText read (stops stop) = endText stop read
-courseText read (applies bytes o rest) =
-    lineText (read + 1) (byte bytes 0) (o .code) (o .actions) ++ courseText (read + 1) rest
+courseText read (applies bytes o rest) = lineText (read + 1) (byte bytes 0) (o .code) (o .actions) ++ courseText (read + 1) rest
 
 -- "reads standard input (at most 4,096 bytes; more prints only `too long`), cold starts .., runs .., and prints .."
 unfoldable pub sheetText : List ℕ → List ℕ
 sheetText input =
-    cond (leb (length input) mostInput)
-    (headerText ++ courseText 0 (course sheetBudget (coldStart sheetLimits .state) input))
-    tooLongText
+    cond (leb (length input) mostInput) (headerText ++ courseText 0 (course sheetBudget (coldStart sheetLimits .state) input)) tooLongText
 
 -- room for every sheet: the header's 22 bytes, and 192 bytes for each of 4,096 lines and for the last one
 abbrev pub sheetRoom : ℕ

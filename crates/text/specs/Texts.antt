@@ -55,8 +55,7 @@ lineText number kind code acts =
 
 -- "and `end`, stop, records read"
 unfoldable pub endText : ℕ → ℕ → List ℕ
-endText stop read =
-    (101 ∷ 110 ∷ 100 ∷ space ∷ []) ++ (decimal stop ++ ((space ∷ decimal read) ++ (newline ∷ [])))
+endText stop read = (101 ∷ 110 ∷ 100 ∷ space ∷ []) ++ (decimal stop ++ ((space ∷ decimal read) ++ (newline ∷ [])))
 
 -- a text put to the front of a lent buffer, where it has room; later bytes stay
 unfoldable pub placed : List ℕ → List ℕ → List ℕ

@@ -65,8 +65,7 @@ withPlaces s ps = record { limits = s .limits; train = s .train; marks = s .mark
 
 -- Q-2: "the RBC of the most recent 159 sent to an RBC; the state remembers it"
 abbrev pub recalling : State → List Action → State
-recalling s acts =
-    record { limits = s .limits; train = s .train; marks = s .marks; places = s .places; last = recalled (s .last) acts }
+recalling s acts = record { limits = s .limits; train = s .train; marks = s .marks; places = s .places; last = recalled (s .last) acts }
 
 -- an action for a partner
 abbrev pub act : Partner → ℕ → Action
@@ -78,8 +77,7 @@ markManual m manual = record { inside = m .inside; mode = m .mode; manual = m .m
 
 -- "Level: stored; manual 1 sets its mark, manual 0 leaves it"
 abbrev pub withLevel : State → ℕ → Bool → State
-withLevel s level manual =
-    withMarks (withTrain s (record { level = level; mission = s .train .mission })) (markManual (s .marks) manual)
+withLevel s level manual = withMarks (withTrain s (record { level = level; mission = s .train .mission })) (markManual (s .marks) manual)
 
 -- "Mode change: sets its mark"
 abbrev pub markMode : Marks → Marks
@@ -124,8 +122,7 @@ withMission s mission = withTrain s (record { level = s .train .level; mission =
 
 -- "Mission: stored; 0 also ends all"
 abbrev pub atMission : State → ℕ → Outcome
-atMission s mission =
-    cond (eqb mission missionEnded) (closePlaces Every (withMission s mission)) (done (withMission s mission) [])
+atMission s mission = cond (eqb mission missionEnded) (closePlaces Every (withMission s mission)) (done (withMission s mission) [])
 
 -- "level 2 or 3"
 abbrev pub radioLevel : Train → Bool
@@ -156,18 +153,15 @@ displaced p accepting = cond (isRbc p && not accepting) Sessions Nothing
 -- "Then the partner takes the lowest-numbered free place as Connecting, outgoing, tries 1, with action 21 last"
 abbrev pub takenIn : Outcome → ℕ → Partner → Outcome
 takenIn o i p =
-    done (withPlaces (o .state) (set (o .state .places) i (seat Outgoing (Connecting firstTry) p)))
-    (o .actions ++ (act p request ∷ []))
+    done (withPlaces (o .state) (set (o .state .places) i (seat Outgoing (Connecting firstTry) p))) (o .actions ++ (act p request ∷ []))
 
 -- "A place freed by this same order is not counted as free for it": the place was found before the closings
 abbrev pub orderedAt : State → Partner → Bool → Cause → ℕ → Outcome
-orderedAt s p accepting cause i =
-    takenIn (closePlaces (displaced p accepting) (withMarks s (spend cause (s .marks)))) i p
+orderedAt s p accepting cause i = takenIn (closePlaces (displaced p accepting) (withMarks s (spend cause (s .marks)))) i p
 
 -- Q-6: "Refusals 5 and 7 then carry place and phase in the step's answer; .. every other answer, carries place 4 and phase 0"
 abbrev pub refusedFor : Partner → State → ℕ → Outcome
-refusedFor p s r =
-    refusedAt r (cond (eqb r refusal.hasPlace || eqb r refusal.notTaken) (standing (seek p (s .places))) nowhere) s
+refusedFor p s r = refusedAt r (cond (eqb r refusal.hasPlace || eqb r refusal.notTaken) (standing (seek p (s .places))) nowhere) s
 
 -- "for an order 4, 5, 8"; Q-2: "15 .. when none is known, after 4 and before 5". The partner is the meant one, which is still the reserved
 -- one exactly when none is known; 5 and 8 ask the places before any closing

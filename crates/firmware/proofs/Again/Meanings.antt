@@ -23,12 +23,13 @@ use Rattle.unit.specs.States.{cold}
 use Rattle.image.specs.Images.{bodyBytes, wholeBytes, imageA2}
 use Rattle.wire.specs.Bytes.{asBit}
 use Rattle.firmware.specs.Calls.{onImage, Seen, seenAfter}
-use Rattle.firmware.specs.Along.{Lent, lentRecords, roomy, seenAlong, lastImage, isAccepted, countOf, overSeen}
-use Rattle.firmware.specs.Along.{actionsSeen, ordersSeen, callsSeen, lossesSeen}
+use Rattle.firmware.specs.Along.{Lent, lentRecords, roomy, seenAlong, lastImage, isAccepted}
+use Rattle.firmware.specs.AlongWords.{countOf, overSeen}
+use Rattle.firmware.specs.AlongWords.{actionsSeen, ordersSeen, callsSeen, lossesSeen}
 use Rattle.firmware.specs.AlongWords.{releasesSeen}
 use Rattle.firmware.specs.AlongWords.{releasesToSeen, lentWith}
 use Rattle.firmware.specs.AlongWords.{actionsPassing, placesPassing, placesSeen, heldSeen, holdsSeen, waitsSeen}
-use Rattle.firmware.specs.Starts.{startedWith, firstImage}
+use Rattle.firmware.specs.AlongWords.{startedWith, firstImage}
 use Rattle.firmware.proofs.Following.{done-returned, onImage-count}
 use Rattle.firmware.proofs.Again.Answers.{state-is, start-done}
 

@@ -45,11 +45,13 @@ use Rattle.history.proofs.Reached.{reached}
 use Rattle.history.proofs.TakenIn.{taken-in}
 use Rattle.history.proofs.Waiting.{waiting, released-once}
 use Rattle.firmware.specs.Calls.{returned, Seen}
-use Rattle.firmware.specs.Along.{Lent, lentRecords, roomy, seenAlong, lastImage, isAccepted, countOf, overSeen}
-use Rattle.firmware.specs.Along.{actionsSeen, ordersSeen, callsSeen, lossesSeen}
+use Rattle.firmware.specs.Along.{Lent, lentRecords, roomy, seenAlong, lastImage, isAccepted}
+use Rattle.firmware.specs.AlongWords.{countOf, overSeen}
+use Rattle.firmware.specs.AlongWords.{actionsSeen, ordersSeen, callsSeen, lossesSeen}
 use Rattle.firmware.specs.AlongWords.{lentWith, releasesToSeen}
 use Rattle.firmware.specs.AlongWords.{actionsPassing, releasesSeen, heldSeen, holdsSeen, waitsSeen}
-use Rattle.firmware.specs.Starts.{limitsOf, startedWith, firstImage}
+use Rattle.firmware.specs.Starts.{limitsOf}
+use Rattle.firmware.specs.AlongWords.{startedWith, firstImage}
 use Rattle.firmware.proofs.Following.{call-number, call-actions, map-follows, over-follows, image-after}
 use Rattle.firmware.proofs.Following.{done-returned, count-returned}
 use Rattle.firmware.proofs.Again.Meanings.{lentWith-means}

@@ -21,15 +21,16 @@ use Rattle.unit.specs.Lasts.{recalled}
 use Rattle.unit.specs.OnRecords.{onRecord, trace, written}
 use Rattle.unit.specs.declared.start.Started.{Started}
 use Rattle.image.specs.Images.{bodyBytes, wholeBytes, imageA2, imagedA2, placesIn, stateIn, sameBytes, readA2}
-use Rattle.history.specs.Histories.{endOf, after, sumOver, summed, silent, timeouts}
+use Rattle.history.specs.Histories.{after, summed, silent, timeouts}
 use Rattle.history.specs.Reaching.{rbc5, order5, lossesIn, ordering, calling, repeated, reaching}
 use Rattle.firmware.specs.Calls.{onImage, Seen, seenAfter}
-use Rattle.firmware.specs.Along.{lentRecords, roomy, seenAlong, lastImage, countOf}
+use Rattle.firmware.specs.Along.{lentRecords, roomy, seenAlong, lastImage}
+use Rattle.firmware.specs.AlongWords.{countOf}
 use Rattle.firmware.specs.AlongWords.{placesPassing, heldSeen, holdsSeen, waitsSeen}
-use Rattle.firmware.specs.Along.{actionsSeen, ordersSeen, callsSeen, lossesSeen}
+use Rattle.firmware.specs.AlongWords.{actionsSeen, ordersSeen, callsSeen, lossesSeen}
 use Rattle.firmware.specs.AlongWords.{releasesSeen}
 use Rattle.firmware.specs.AlongWords.{releasesToSeen, lentWith}
-use Rattle.firmware.specs.Starts.{firstImage}
+use Rattle.firmware.specs.AlongWords.{firstImage}
 use Rattle.firmware.specs.Shown.{shownStart, shownImage, shownRounds, shownShort, shownCalls}
 use Rattle.firmware.proofs.Again.Answers.{step-refused, step-accepted}
 use Rattle.firmware.proofs.Again.Seen.{image-follows, numbers-follow, bytes-follow, sums-follow, seen-bound, seen-taken-in}
@@ -112,7 +113,7 @@ pub image-shown :
     ∷ 3 ∷ 1 ∷ 0 ∷ 0 ∷ 5 ∷ [])
     × (readA2 (lastImage (shownStart 3) (seenAlong (shownStart 3) shownCalls)) .code ≡ 0)
 unfolding reading turn turnedTo first seek placesOk sound cold coldStart closed closingActions step onRecord some recalled blocks
-    bodyBytes wholeBytes imageA2 trace after endOf shownRounds
+    bodyBytes wholeBytes imageA2 trace after shownRounds
 image-shown =
     let follows = image-follows 1 2 3 within (replicate 50 1) long shownCalls room in
     (follows .0 ∙ refl, ap (λ (r : Started). r .code) (follows .1))
@@ -153,7 +154,7 @@ pub sums-shown :
     × (lossesSeen (lentRecords shownCalls) (seenAlong (shownStart 3) shownCalls) ≡ 1)
     × (releasesSeen (lentRecords shownCalls) (seenAlong (shownStart 3) shownCalls) ≡ 2)
 unfolding reading turn turnedTo first seek placesOk sound cold coldStart closed closingActions step onRecord some recalled
-    trace summed sumOver count shownRounds
+    trace summed count shownRounds
 sums-shown =
     let sums = sums-follow 1 2 3 within (replicate 50 1) long shownCalls room in
     (sums .0 ∙ refl, sums .1 ∙ refl, sums .2 ∙ refl, sums .3 ∙ refl, sums .4 ∙ refl)

@@ -1,6 +1,6 @@
 -- Request Q-13: "It lists each changed field by its first offset, ascending"; and what is in no field stays.
 -- Proves: told-changed, listed-field, listed-changed, unlisted-same, listed-ascends, rescued-length, rescued-outside, listed-byte,
--- listed-place, listed-last, listed-numbers, told-count, told-front.
+-- listed-place, listed-last, listed-numbers, told-count, told-front, sizeOf-means.
 use mathlib.Core.Path.{_≡_, refl, sym, ap, subst, _∙_}
 use mathlib.Core.Logic.{_↔_}
 use mathlib.Core.Bool.{Bool, true, false, cond, _&&_, _||_, not}
@@ -15,7 +15,7 @@ use Rattle.wire.specs.Refusals.{accepted}
 use Rattle.wire.proofs.Tests.{and-left, and-right, and-both, true-false, cond-holds}
 use Rattle.wire.proofs.Padded.{padded-take}
 use Rattle.image.specs.Images.{sameBytes, readA2, imageA2, wholeBytes, bodyBytes, stateIn}
-use Rattle.image.specs.Rescue.{mended, fieldOffsets, mostFields, part, changed, listing, told, spoilt, left}
+use Rattle.image.specs.Rescue.{mended, fieldOffsets, mostFields, sizeOf, part, changed, listing, told, spoilt, left}
 use Rattle.image.specs.Rescue.{rescue, rescued}
 use Rattle.image.specs.RescueWords.{isIn, ascends}
 use Rattle.image.specs.declared.rescue.Rescued.{Rescued}
@@ -23,7 +23,7 @@ use Rattle.image.proofs.Bytes.{same-bytes, bytes-same, imageA2-length}
 use Rattle.image.proofs.Again.Rescues.{rescue-kind, rescue-empty, rescue-refused}
 use Rattle.image.proofs.Again.Tails.{imageA2-tries}
 use Rattle.image.proofs.Mending.{mended-four}
-use Rattle.image.proofs.Rescuing.{changed-few}
+use Rattle.image.proofs.Rescuing.{changed-few, sizeOf-mark, sizeOf-place, sizeOf-last}
 use Rattle.image.proofs.Left.{rescued-left, accepted-long, body-byte}
 
 -- nothing has changed between an image and itself
@@ -265,3 +265,13 @@ module _ (image : List ℕ) where
       by : (b : Bool) → Answer b .fields ≡ take 11 (told (Answer b) ++ replicate 11 0)
       by true = ap (λ l. take 11 (l ++ replicate 11 0)) (sym padded)
       by false = refl
+
+-- the bytes of the field that begins at an offset: before the places one, from 9 on a place's seven, from 38 on the last RBC's four
+-- meaning
+pub sizeOf-means : (at : ℕ)
+    → (at < 9 → sizeOf at ≡ 1) × (9 ≤ at → at < 38 → sizeOf at ≡ 7) × (38 ≤ at → sizeOf at ≡ 4)
+sizeOf-means at = (
+  (λ low. sym (sizeOf-mark at low)),
+  (λ from below. sym (sizeOf-place at from below)),
+  (λ from. sym (sizeOf-last at (omega arith) from)),
+)

@@ -25,8 +25,7 @@ use Rattle.unit.specs.declared.last.Last.{Last}
 use Rattle.unit.specs.declared.last.Last.the-variants.{Unknown, Known}
 use Rattle.unit.specs.declared.start.Started.{Started}
 use Rattle.image.specs.Images.{placeSize, placeBytes, headSize, placeIn, lastBytes, lastIn, stateIn}
-use Rattle.image.specs.Images.{placesAt}
-use Rattle.image.specs.Bodies.{lastFrom}
+use Rattle.image.specs.Bodies.{placesAt, lastFrom}
 use Rattle.wire.specs.Bytes.{asBit}
 use Rattle.image.specs.Images.{sameBytes, imageA2, bodyBytes, wholeBytes, readA2}
 use Rattle.image.specs.Rescue.{isPlaceOf, mendPlace, mendPlaces, isLastOf, mendLast, mended, left, rescue, rescued}

@@ -10,7 +10,8 @@ use Rattle.wire.specs.Bytes.{byte}
 use Rattle.unit.specs.States.{placeCount}
 use Rattle.unit.specs.declared.last.Last.the-variants.{Unknown, Known}
 use Rattle.unit.specs.declared.state.State.{State}
-use Rattle.image.specs.Images.{bodyBytes, lastBytes, tailBytes, wholeBytes, imageA1, imageA2}
+use Rattle.image.specs.Images.{bodyBytes, lastBytes, wholeBytes, imageA1, imageA2}
+use Rattle.image.specs.Bodies.{tailBytes}
 use Rattle.image.proofs.Bytes.{bodyBytes-length, whole-tail}
 
 module _ (s : State) where

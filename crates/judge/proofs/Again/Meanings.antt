@@ -1,7 +1,7 @@
 -- Cross-checks only: rules told a second time.
 -- What the tests of the judge mean.
 -- Proves: sheetOf-means, startsWith-means, isRecord-means, isRight-means, right-means, missing-means, short-means, wrong-means,
--- event-right, event-short, event-wrong, event-never, sendable-means, lengthBy-means.
+-- event-right, event-short, event-wrong, event-never, sendable-means, lengthBy-means, stoppedAs-means, produceRefuses-means.
 use mathlib.Core.Path.{_≡_, refl, sym, ap, ap₂, _∙_}
 use mathlib.Core.Logic.{_↔_, _⊎_, inl, inr, ⊎-elim}
 use mathlib.Core.Bool.{Bool, true, false, cond, _&&_}
@@ -27,6 +27,9 @@ use Rattle.judge.specs.declared.due.Finding.the-variants.{Right, Wrong, 
 use Rattle.judge.specs.Sheets.{dueBytes, dues, sheetOf, isRecord}
 use Rattle.judge.specs.Judging.{startsWith, compared, stoppedAs, against, isRight}
 use Rattle.judge.specs.FrontWords.{sendable, lengthBy}
+use Rattle.judge.specs.Producing.{produced, producedRoom}
+use Rattle.judge.specs.Refusing.{ProduceRefuses}
+use Rattle.place.specs.declared.limits.Limits.{Limits}
 use Rattle.judge.proofs.Splits.{startsWith-front, startsWith-split, right-starts, compared-front}
 use Rattle.judge.proofs.Numbers.{six}
 use Rattle.judge.proofs.Fronts.{Front, ends, breaks, begins, front-is, record-known, record-long, record-taken}
@@ -308,3 +311,19 @@ lengthBy-means kind = (
   where
     other : Bool → Bool → ℕ
     other answer action = cond answer 2 (cond action 5 1)
+
+-- a stop of taking as a finding: 0 Right, 2 Short, any other Wrong
+-- meaning
+pub stoppedAs-means : map stoppedAs (0 ∷ 1 ∷ 2 ∷ 3 ∷ []) ≡ Right ∷ Wrong ∷ Short ∷ Wrong ∷ []
+stoppedAs-means = refl
+
+-- what our own side answers and leaves where it refuses, field by field
+-- meaning
+pub produceRefuses-means : (r : ℕ) (l : Limits) (log room : List ℕ)
+    → ProduceRefuses r l log room
+    → (produced l log (length room) .code ≡ r)
+    × (produced l log (length room) .written ≡ 0)
+    × (produced l log (length room) .records ≡ 0)
+    × (produced l log (length room) .stop ≡ 0)
+    × (producedRoom l log room ≡ room)
+produceRefuses-means r l log room refuses = refuses

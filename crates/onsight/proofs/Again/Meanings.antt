@@ -1,7 +1,7 @@
 -- Cross-checks only: rules told a second time.
 -- What is said of a history means what it says of each event of it: which state it met, what was answered, which were accepted.
--- Proves: met-each, met-length, codes-each, endOf-last, met-append, after-each, acceptedOf-each, lastIs-means, anyIs-means, and-left,
--- and-right, every-means, unacknowledged-means.
+-- Proves: met-each, met-length, codes-each, endOf-last, after-met, met-append, after-each, acceptedOf-each, lastIs-means, anyIs-means,
+-- and-left, and-right, every-means, unacknowledged-means.
 use mathlib.Core.Path.{_≡_, refl, ap, _∙_}
 use mathlib.Core.Logic.{_↔_, _⊎_, inl, inr, ⊎-elim}
 use mathlib.Core.Bool.{Bool, true, false, _&&_, _||_, not, false≢true}
@@ -11,8 +11,8 @@ use native.Mathlib.Omega.{arith}
 use lib.ListN.{length, getD, take}
 use borrow.Author.Tests.{eq-eqb, ne-eqb}
 use Rattle.onsight.specs.Procedures.{step}
-use Rattle.onsight.specs.Histories.{Met, met, endOf, after}
-use Rattle.onsight.specs.HistoryWords.{codes, acceptedOf, lastIs, anyIs, every, unacknowledged, isAcknowledgement}
+use Rattle.onsight.specs.Histories.{after}
+use Rattle.onsight.specs.HistoryWords.{Met, met, endOf, codes, acceptedOf, lastIs, anyIs, every, unacknowledged, isAcknowledgement}
 use Rattle.onsight.specs.declared.event.Event.{Event}
 use Rattle.onsight.specs.declared.event.Event.the-variants.{Acknowledgement}
 use Rattle.onsight.specs.declared.procedure.State.{State}
@@ -24,7 +24,7 @@ pub met-each : (s : State) (es : List Event) (i : ℕ) (m : Met) (e : Event)
     → i < length es
     → getD (met s es) i m
     ≡ record { state = after s (take i es); event = getD es i e; answer = step (after s (take i es)) (getD es i e) }
-unfolding met endOf
+unfolding after met
 met-each s [] i m e less = absurd (omega arith)
 met-each s (f ∷ es) zero m e less = refl
 met-each s (f ∷ es) (suc i) m e less = met-each (step s f .state) es i m e (omega arith)
@@ -41,7 +41,7 @@ met-length s (e ∷ es) = ap suc (met-length (step s e .state) es)
 pub codes-each : (s : State) (es : List Event) (i d : ℕ) (e : Event)
     → (length (codes s es) ≡ length es)
     × (i < length es → getD (codes s es) i d ≡ step (after s (take i es)) (getD es i e) .code)
-unfolding met endOf
+unfolding after met
 codes-each s [] i d e = (refl, λ less. absurd (omega arith))
 codes-each s (f ∷ es) zero d e = (ap suc (codes-each (step s f .state) es zero d e .0), λ less. refl)
 codes-each s (f ∷ es) (suc i) d e =
@@ -57,8 +57,15 @@ unfolding endOf
 endOf-last s [] m = (refl, refl)
 endOf-last s (n ∷ ms) m = (refl, endOf-last (n .answer .state) ms m .1)
 
+-- the state after a history is the one that its last event left
+-- meaning
+pub after-met : (s : State) (es : List Event) → after s es ≡ endOf s (met s es)
+unfolding after met endOf
+after-met s [] = refl
+after-met s (e ∷ es) = after-met (step s e .state) es
+
 pub met-append : (s : State) (es fs : List Event) → met s (es ++ fs) ≡ met s es ++ met (after s es) fs
-unfolding met endOf
+unfolding after met
 met-append s [] fs = refl
 met-append s (e ∷ es) fs =
     ap (λ ms. record { state = s; event = e; answer = step s e } ∷ ms) (met-append (step s e .state) es fs)
@@ -68,10 +75,11 @@ met-append s (e ∷ es) fs =
 pub after-each : (s : State) (es : List Event) (e : Event)
     → (after s [] ≡ s)
     × (after s (es ++ (e ∷ [])) ≡ step (after s es) e .state)
-unfolding met endOf
+unfolding after met
 after-each s es e = (
   refl,
-  ap (endOf s) (met-append s es (e ∷ []))
+  after-met s (es ++ (e ∷ []))
+      ∙ ap (endOf s) (met-append s es (e ∷ []))
       ∙ endOf-last s (met s es) (record { state = after s es; event = e; answer = step (after s es) e }) .1,
 )
 

@@ -5,8 +5,7 @@
 use mathlib.Core.Path.{_≡_, refl, ap, ap₂}
 use mathlib.Core.Logic.{_↔_, _⊎_, inl, inr, ⊎-elim}
 use mathlib.Core.Bool.{true, _&&_}
-use Rattle.onsight.specs.Histories.{Met}
-use Rattle.onsight.specs.HistoryWords.{isIdle, isLate, isDone, isProfile, isExpiry, isAcknowledgement, expiryInLate}
+use Rattle.onsight.specs.HistoryWords.{Met, isIdle, isLate, isDone, isProfile, isExpiry, isAcknowledgement, expiryInLate}
 use Rattle.onsight.specs.HistoryWords.{ends, bringsOS, asksForAcknowledgement}
 use Rattle.onsight.specs.declared.event.Area.{Area}
 use Rattle.onsight.specs.declared.event.Area.the-variants.{Entered}

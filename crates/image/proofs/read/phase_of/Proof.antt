@@ -1,5 +1,5 @@
 -- Each arm is a phase.
-use borrow.Author.Tests.{ne-eqb}
+use Rattle.image.proofs.Taking.{phaseOf-other}
 use Rattle.image.proofs.read.phase_of.Statement.{statement}
 use Rattle.image.proofs.read.phase_of.Tie as tie
 
@@ -18,7 +18,7 @@ returns-4 c = rw (c .match .keys4)
 returns-5 : tie.Need-returns-5
 returns-5 c =
     let rest = c .match .rest in
-    simp (ne-eqb _ _ (rest .0 .0 .0 .1), ne-eqb _ _ (rest .0 .0 .1), ne-eqb _ _ (rest .0 .1), ne-eqb _ _ (rest .1))
+    phaseOf-other (c .before .args .number) (c .before .args .tries) (rest .0 .0 .0 .1) (rest .0 .0 .1) (rest .0 .1) (rest .1)
 
 pub phase-of-spec : {M : Type 1} → statement M
 phase-of-spec = tie.close (tie.spec returns returns-2 returns-3 returns-4 returns-5)

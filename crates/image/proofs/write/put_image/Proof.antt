@@ -4,7 +4,7 @@ use native.Mathlib.Omega.{arith}
 use denote.Ref.{now}
 use lib.Seq.{sets}
 use Rattle.unit.proofs.Facts.{sound-facts}
-use Rattle.image.specs.Images.{tailBytes}
+use Rattle.image.specs.Bodies.{tailBytes}
 use Rattle.image.proofs.Putting.{image-end}
 use Rattle.image.proofs.write.put_image.Statement.{statement}
 use Rattle.image.proofs.write.put_image.Tie as tie

@@ -25,7 +25,7 @@ cell-spec =
     (λ c. search needs)
     (λ c κs. search needs)
     returns
-    (λ c. search needs)
-    (λ c. search needs)
-    (λ c. search needs)
-    (λ c. search needs))
+    (λ c. cc (c .in-window .ensures, c .before .enum-told .given .1))
+    (λ c. cc (c .past-start .ensures, c .before .enum-told2 .given .1))
+    (λ c. cc (c .acknowledged .ensures, c .before .enum-told3 .given .1))
+    (λ c. cc (c .expired .ensures, c .before .enum-told4 .given .1)))
