@@ -28,3 +28,25 @@ int32_t model_step(uint8_t *image, uint64_t image_length, const uint8_t *record,
     image_write(&s, image, image_length);
     return r.count;
 }
+
+uint32_t model_interface(void) { return 1; }
+
+/* "Image read: 1 (empty), 2, 1 (length), 11", of A2 alone. */
+int32_t model_reads(const uint8_t *image, uint64_t image_length)
+{
+    State s;
+    return -image_read_new(&s, image, image_length);
+}
+
+/* Request Q-6: "Refusals 5 and 7 then carry place and phase in the step's answer; 7 for a hole, and every other answer, carries place 4
+ * and phase 0". The step is made on a state of its own. */
+int32_t model_standing(const uint8_t *image, uint64_t image_length, const uint8_t *record, uint64_t record_length)
+{
+    State s;
+    uint8_t actions[ACTION_BUFFER];
+    const uint8_t refused = image_read_new(&s, image, image_length);
+    if (refused)
+        return -refused;
+    const StepResult r = step(&s, record, record_length, actions, sizeof actions);
+    return r.place < PLACES ? 16 * r.place + r.phase : 0;
+}

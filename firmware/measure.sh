@@ -1,5 +1,5 @@
 #!/bin/sh
-# What the library takes: bytes of code and of constants, the deepest stack of a call, and the instructions of a call beside the
+# What the libraries take: bytes of code and of constants, the deepest stack of each function, and the instructions of a step beside the
 # independent model's, which reads the image, steps and writes it with its own functions (by_model.c, compiled at -O3).
 # Instructions are counted exactly: by valgrind on an x86-64, elsewhere by qemu-x86_64 (7 or 8) with the plugin qemu_count.c. The walk
 # along the log, the call itself, and all that comes before and after are subtracted.
@@ -25,7 +25,8 @@ else
     counted() { qemu-x86_64 -L "$sysroot" -plugin "$t/count.so" "$@"; }
 fi
 make -s -C "$model" bench classes
-"$gcc" -O3 -std=c11 -Wall -Wextra -o "$t/count_calls" count_calls.c by_model.c "$model/model.c" "$archive"
+"$gcc" -O3 -std=c11 -Wall -Wextra -o "$t/count_calls" count_calls.c by_model.c "$model/model.c" "$archive" \
+    -Wl,--whole-archive "$asks" -Wl,--no-whole-archive
 
 # Leaves in $collected the instructions of the program with this word on this file; what it prints goes to $t/WORD.
 count() {
@@ -46,14 +47,35 @@ count_all() {
 }
 
 "${prefix}objdump" -d --no-show-raw-insn "$t/count_calls" >"$t/code"
-"${prefix}size" -A "$archive" | awk '
-    $1 ~ /^\.text/ { code += $2 }
-    $1 ~ /^\.rodata/ { constants += $2 }
-    $1 ~ /^\.(data|bss|tdata|tbss)/ { data += $2 }
-    END { printf "| the library | bytes |\n|---|---|\n| code | %d |\n| constants | %d |\n| writable data | %d |\n", code, constants, data }'
-for function in resheftal_step resheftal_cold_start; do
-    deepest=$(stack "$t/code" $function)
-    echo "| deepest stack of $function | $deepest |"
+# Bytes of the functions, or of the constants, of the model that a program for its two calls keeps.
+kept() {
+    "${prefix}nm" -S "$t/alone" | awk -v kinds="$1" '
+        function hex(x,  v, i) { for (i = 1; i <= length(x); i++) v = v * 16 + index("0123456789abcdef", substr(x, i, 1)) - 1; return v }
+        FNR == NR { own[$1]; next }
+        NF == 4 && $3 ~ kinds && $4 in own { n += hex($2) }
+        END { print n + 0 }' "$t/own" -
+}
+for source in by_model.c "$model/model.c"; do
+    "$gcc" -O3 -std=c11 -ffunction-sections -fdata-sections -c -o "$t/$(basename "$source" .c).o" "$source"
+done
+echo '#include "by_model.h"
+int main(void) { static uint8_t b[64]; return model_cold_start(1, 2, 3, b, 42) + model_step(b, 42, b, 1, b + 42, 20); }' >"$t/alone.c"
+"$gcc" -O3 -std=c11 -I. -Wl,--gc-sections -o "$t/alone" "$t/alone.c" "$t/by_model.o" "$t/model.o"
+"${prefix}nm" --defined-only "$t/by_model.o" "$t/model.o" | awk 'NF == 3 { print $3 }' >"$t/own"
+sections() { "${prefix}size" -A "$1" | awk -v name="$2" '$1 ~ name { n += $2 } END { print n + 0 }'; }
+echo "| bytes | \`libfirmware.a\` | model | \`libasks.a\` |"
+echo "|---|---|---|---|"
+echo "| code | $(sections "$archive" '^[.]text') | $(kept '^[Tt]$') | $(sections "$asks" '^[.]text') |"
+echo "| constants | $(sections "$archive" '^[.]rodata') | $(kept '^[Rr]$') | $(sections "$asks" '^[.]rodata') |"
+writable='^[.](data|bss|tdata|tbss)'
+echo "| writable data | $(sections "$archive" "$writable") | $(kept '^[DdBb]$') | $(sections "$asks" "$writable") |"
+echo
+echo "| deepest stack, bytes | library | model |"
+echo "|---|---|---|"
+echo "| \`resheftal_step\` | $(stack "$t/code" resheftal_step) | $(stack "$t/code" model_step memcpy) |"
+echo "| \`resheftal_cold_start\` | $(stack "$t/code" resheftal_cold_start) | $(stack "$t/code" model_cold_start memcpy) |"
+for function in resheftal_interface resheftal_reads resheftal_standing; do
+    echo "| \`$function\` | $(stack "$t/code" $function) | |"
 done
 
 echo
@@ -83,8 +105,11 @@ for others in 0 3; do
     done
 done
 echo
-awk '{ p += $4; m += $5; if ($4 > top) { top = $4; at = "others " $1 ", phase " $2 ", event " $3; peer = $5 } }
+awk '{ p += $4; m += $5; at = "others " $1 ", phase " $2 ", event " $3 }
+    $4 > top { top = $4; top_at = at }
+    $5 > peer { peer = $5; peer_at = at }
     END {
-        printf "Instructions of a call over %d classes of (others, phase, event): mean %.0f library, %.0f model; ", NR, p / NR, m / NR
-        printf "dearest %d library, %d model (%s of classes.c)\n", top, peer, at
+        printf "A call, one event, over %d classes of (others, phase, event):\n\n", NR
+        print "| | library | model |\n|---|---|---|"
+        printf "| mean, instructions | %.1f | %.1f |\n| dearest, instructions | %d | %d |\n| its class in classes.c | %s | %s |\n", p / NR, m / NR, top, peer, top_at, peer_at
     }' "$t/classes"

@@ -1,15 +1,21 @@
-/* What test_boundary.c calls: the library itself, or with -DSPOIL=k the library with its answer damaged in the k-th way, on every
- * 500th call where that can be (an argument that is cut: on each). test_boundary.sh requires that the test fails with each k, from 1
- * to the last. */
+/* What test_boundary.c calls: the libraries themselves, or with -DSPOIL=k the libraries with an answer damaged in the k-th way, on every
+ * 500th call where that can be (an argument that is cut, and the interface: on each). test_boundary.sh requires that the test fails with
+ * each k, from 1 to the last. */
 #ifndef SPOIL_H
 #define SPOIL_H
 
 #ifndef SPOIL
 #define STEP resheftal_step
 #define START resheftal_cold_start
+#define READS resheftal_reads
+#define STANDING resheftal_standing
+#define INTERFACE resheftal_interface
 #else
 #define STEP spoilt_step
 #define START spoilt_start
+#define READS spoilt_reads
+#define STANDING spoilt_standing
+#define INTERFACE spoilt_interface
 
 /* This is the 500th such call. */
 static bool due(bool can)
@@ -75,6 +81,45 @@ static int32_t spoilt_start(uint32_t lowest, uint32_t highest, uint32_t tries, u
     if (SPOIL == 30 && due(image != NULL)) image[image_length] ^= 1;
     return n;
 }
+
+__attribute__((noinline))
+static int32_t spoilt_reads(const uint8_t *image, uint64_t image_length)
+{
+    uint8_t *const lent = (uint8_t *)image;
+    if (SPOIL == 31) image_length = (uint32_t)image_length;
+    const int32_t n = resheftal_reads(image, image_length);
+    if (SPOIL == 32) return due(n == -RESHEFTAL_REFUSED_NOT_SOUND) ? RESHEFTAL_ACCEPTED : n;
+    if (SPOIL == 33) return due(n == -RESHEFTAL_REFUSED_UNKNOWN_KIND && image_length != 42) ? -RESHEFTAL_REFUSED_WRONG_LENGTH : n;
+    if (SPOIL == 34) return due(n < 0) ? -n : n;
+    if (SPOIL == 35 && due(image_length > 0)) lent[image_length - 1] ^= 1;
+    if (SPOIL == 36 && due(image != NULL)) lent[-1] ^= 1;
+    if (SPOIL == 37 && due(image != NULL)) lent[image_length] ^= 1;
+    return n;
+}
+
+__attribute__((noinline))
+static int32_t spoilt_standing(const uint8_t *image, uint64_t image_length, const uint8_t *record, uint64_t record_length)
+{
+    uint8_t *const lent = (uint8_t *)image, *const bytes = (uint8_t *)record;
+    if (SPOIL == 38) image_length = (uint32_t)image_length;
+    if (SPOIL == 39) record_length = (uint32_t)record_length;
+    const int32_t n = resheftal_standing(image, image_length, record, record_length);
+    /* another place, another phase, of a partner of which nothing is said, nothing where something is; an image that does not read */
+    if (SPOIL == 40) return due(n > RESHEFTAL_PER_PLACE) ? n - RESHEFTAL_PER_PLACE : n;
+    if (SPOIL == 41) return due(n > 0) ? n ^ 1 : n;
+    if (SPOIL == 42) return due(n == 0) ? RESHEFTAL_PER_PLACE * RESHEFTAL_PLACE_COUNT : n;
+    if (SPOIL == 43) return due(n > 0) ? 0 : n;
+    if (SPOIL == 44) return due(n < 0) ? 0 : n;
+    /* a byte that was lent to be read only, or not lent */
+    if (SPOIL == 45 && due(image_length > 0)) lent[0] ^= 1;
+    if (SPOIL == 46 && due(image != NULL)) lent[image_length] ^= 1;
+    if (SPOIL == 47 && due(record_length > 0)) bytes[0] ^= 1;
+    if (SPOIL == 48 && due(record != NULL)) bytes[-1] ^= 1;
+    if (SPOIL == 49 && due(record != NULL)) bytes[record_length] ^= 1;
+    return n;
+}
+
+static uint32_t spoilt_interface(void) { return resheftal_interface() + (SPOIL == 50); }
 #endif
 
 #endif

@@ -40,6 +40,8 @@ stack() {
             if (row > 40) fail("the calls have no end at " f)
             if (!(f in frame)) fail("no frame of " f)
             if (f in odd) fail(f ": " odd[f])
+            k = split(kept[f], calls, " ")
+            for (; k > 0; k--) if (!entry[f, calls[k]]) fail(f ": " jump[f])
             if (grows(f)) fail(f ": a loop takes stack on each round")
             most = below[f]
             k = split(called[f], calls, "\n")
@@ -89,6 +91,15 @@ stack() {
         $2 ~ /^movslq$/ && $3 ~ /^(0x0)?\(.*,4\),%r[a-z0-9]+$/ { x = $3; sub(/.*,/, "", x); table[x] = 1; next }
         $2 ~ /^addq?$/ && $3 ~ /^%r[a-z0-9]+,%r[a-z0-9]+$/ { x = $3; sub(/.*,/, "", x); table[x] = (x in table) && table[x] == 1 ? 2 : 0; next }
         $2 ~ /^jmpq?$/ && $3 ~ /^\*%/ { x = substr($3, 2); if (!(x in table) || table[x] != 2) strange($0); next }
+        # Such an entry may be kept in a word of the frame till the jump: then nothing else is ever stored in that word.
+        $2 ~ /^movq?$/ && $3 ~ /^%r[a-z0-9]+,0x[0-9a-f]+\(%rsp\)$/ {
+            split($3, word, ",")
+            alone = (f, word[2]) in entry ? entry[f, word[2]] : 1
+            entry[f, word[2]] = alone && (word[1] in table) && table[word[1]] == 2
+            next
+        }
+        $3 ~ /,0x[0-9a-f]+\(%rsp\)$/ && $2 !~ /^(cmp|test)/ { x = $3; sub(/.*,/, "", x); entry[f, x] = 0 }
+        $2 ~ /^jmpq?$/ && $3 ~ /^\*0x[0-9a-f]+\(%rsp\)$/ { kept[f] = kept[f] " " substr($3, 2); jump[f] = $0; next }
         $2 ~ /^(callq?|jmpq?)$/ && $3 ~ /^\*/ { strange($0) }
         $2 ~ /^(callq?|j[a-z]+)$/ && $3 !~ /^\*/ {
             if (!match($0, /<.*>$/)) { strange($0); next }

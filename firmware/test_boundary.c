@@ -1,8 +1,9 @@
-/* test_boundary [CALLS [SEED]]: random and damaged calls of the library, each held to the same call of the independent model: the
+/* test_boundary [CALLS [SEED]]: random and damaged calls of the libraries, each held to the same call of the independent model: the
  * number answered, and every byte of the three buffers and of 16 or more bytes before and behind each. Histories begin with a cold
  * start, every one of the 324 in turn, and go on through the images that the library wrote; beside each step of a history stand calls
- * with damaged images, records and lengths. Prints the counts, or the first difference and exits with 1; exits with 1 as well where a
- * refusal, a length, a number of actions or a cold start never came. With -DSPOIL=k the library's answers are damaged on the way. */
+ * with damaged images, records and lengths; before each step it is asked whether the image reads and where the partner stands. Prints the
+ * counts, or the first difference and exits with 1; exits with 1 as well where a refusal, a length, a number of actions, a cold start, or
+ * a place with a phase never came. With -DSPOIL=k the answers are damaged on the way. */
 #include "resheftal.h"
 
 #include "../independent-model/gen.h"
@@ -30,10 +31,11 @@ typedef struct { uint8_t arena[ARENA]; uint32_t start, length; } Buffer;
 typedef struct { Buffer image, record, actions; } Lent;
 
 static Rng rng;
-static unsigned long calls, wanted = 1000000, steps, starts, huge;
+static unsigned long calls, wanted = 3000000, steps, starts, asked, huge;
 static unsigned long refused_steps[256], refused_starts[256], accepted[RESHEFTAL_MOST_ACTIONS + 1], sent[256];
 static unsigned long image_lengths[LONGEST + 1], action_lengths[LONGEST + 1], record_lengths[RECORD_LONGEST + 1];
 static unsigned long started[STARTS];
+static unsigned long refused_reads[256], unread_standings[256], stands[RESHEFTAL_PER_PLACE * PLACES], silent;
 
 static uint32_t below(uint32_t n) { return rng_below(&rng, n); }
 
@@ -94,6 +96,30 @@ static void hold(int32_t got, int32_t want, const Lent *before, const Lent *libr
         : want < 0 && !same(&model->actions, &before->actions) ? "the model wrote actions that it refused" : NULL;
     if (what)
         differ(what, got, want, before, library, model);
+}
+
+/* Whether the image reads, and where the partner stands, through both; no byte may change. */
+static void ask_both(const Lent *lent)
+{
+    Lent library = *lent, model = *lent;
+    const int32_t got = READS(at(&library.image), library.image.length);
+    const int32_t want = model_reads(at(&model.image), model.image.length);
+    calls++;
+    asked++;
+    hold(got, want, lent, &library, &model);
+    refused_reads[-want]++;
+    library = *lent;
+    const int32_t here = STANDING(at(&library.image), library.image.length, at(&library.record), library.record.length);
+    const int32_t there = model_standing(at(&model.image), model.image.length, at(&model.record), model.record.length);
+    calls++;
+    asked++;
+    hold(here, there, lent, &library, lent);
+    if (there < 0)
+        unread_standings[-there]++;
+    else if (there > 0)
+        stands[there]++;
+    else
+        silent++;
 }
 
 /* One step through both; the library's image is left in *lent. */
@@ -229,12 +255,14 @@ static void history(uint32_t number)
         fill(&lent.image, image, IMAGE_BYTES);
         lend_record(&lent.record, &s);
         lend_actions(&lent.actions);
+        ask_both(&lent);
         if (step_both(&lent) >= 0)
             memcpy(image, lent.image.arena + lent.image.start, sizeof image);
         if (below(2)) {
             lend_image(&lent.image, image);
             lend_record(&lent.record, &s);
             lend_actions(&lent.actions);
+            ask_both(&lent);
             step_both(&lent);
         }
         if (below(16) == 0)
@@ -249,6 +277,7 @@ static void huge_lengths(void)
     const uint64_t four_gib = (uint64_t)1 << 32;
     const size_t page = 65536;
     uint8_t image[IMAGE_BYTES], actions[ACTION_BUFFER] = {0}, mode = EV_MODE;
+    const uint8_t call[] = {EV_MESSAGE, RBC, 0, 0, 5, 38, 0};
     uint8_t *const room = mmap(NULL, four_gib + page, PROT_NONE, MAP_PRIVATE | MAP_ANONYMOUS | MAP_NORESERVE, -1, 0);
     if (room == MAP_FAILED || mprotect(room, page, PROT_READ | PROT_WRITE) != 0) {
         printf("there is no address space of 4 GiB\n");
@@ -260,8 +289,15 @@ static void huge_lengths(void)
     room[0] = EV_MODE;
     const int32_t as_record = STEP(image, sizeof image, room, four_gib + 1, actions, sizeof actions);
     const int32_t as_actions = STEP(image, sizeof image, &mode, 1, room, four_gib);
-    huge = 4;
-    calls += huge;
+    /* RBC 5 calls, and calls again by a record that would be right without its upper half */
+    STEP(image, sizeof image, call, sizeof call, actions, sizeof actions);
+    memcpy(room, call, sizeof call);
+    const int32_t as_standing = STANDING(image, sizeof image, room, four_gib + sizeof call);
+    memcpy(room, image, sizeof image);
+    const int32_t as_read = READS(room, four_gib + IMAGE_BYTES);
+    const int32_t as_held = STANDING(room, four_gib + IMAGE_BYTES, call, sizeof call);
+    huge = 7;
+    calls += huge + 1;
     if (start != 0)
         differ("a cold start into 4 GiB", start, 0, NULL, NULL, NULL);
     if (as_image != -1)
@@ -270,6 +306,12 @@ static void huge_lengths(void)
         differ("a record of 4 GiB and 1 byte", as_record, -1, NULL, NULL, NULL);
     if (as_actions != 0)
         differ("an action buffer of 4 GiB", as_actions, 0, NULL, NULL, NULL);
+    if (as_standing != 0)
+        differ("a call of 4 GiB and 7 bytes that is asked about", as_standing, 0, NULL, NULL, NULL);
+    if (as_read != -1)
+        differ("an image of 4 GiB and 42 bytes that is asked about", as_read, -1, NULL, NULL, NULL);
+    if (as_held != -1)
+        differ("an image of 4 GiB and 42 bytes, where a partner stands", as_held, -1, NULL, NULL, NULL);
     munmap(room, four_gib + page);
 }
 
@@ -294,6 +336,8 @@ int main(int argc, char **argv)
     if (argc > 2)
         seed = strtoul(argv[2], NULL, 0);
     rng.s = seed;
+    if (INTERFACE() != RESHEFTAL_INTERFACE || model_interface() != RESHEFTAL_INTERFACE)
+        differ("another interface", (int32_t)INTERFACE(), RESHEFTAL_INTERFACE, NULL, NULL, NULL);
     huge_lengths();
     for (uint32_t number = 0; calls < wanted; number = (number + 1) % STARTS)
         history(number);
@@ -302,7 +346,11 @@ int main(int argc, char **argv)
         + never("refusal of a cold start", refused_starts, 10, 10) + never("refusal of a cold start", refused_starts, 13, 13)
         + never("a step with actions", accepted, 0, RESHEFTAL_MOST_ACTIONS) + never("image length", image_lengths, 0, LONGEST)
         + never("record length", record_lengths, 0, RECORD_LONGEST) + never("action buffer length", action_lengths, 0, LONGEST)
-        + never("cold start number", started, 0, STARTS - 1);
+        + never("cold start number", started, 0, STARTS - 1) + never("reading that is asked about", refused_reads, 0, 2)
+        + never("reading that is asked about", refused_reads, 11, 11) + never("standing in an image with refusal", unread_standings, 1, 2)
+        + never("standing in an image with refusal", unread_standings, 11, 11);
+    for (unsigned place = 0; place < PLACES; place++)
+        missing += never("standing", stands, RESHEFTAL_PER_PLACE * place + CONNECTING, RESHEFTAL_PER_PLACE * place + ENDING);
     for (size_t i = 0; i < sizeof actions; i++)
         missing += never("action", sent, actions[i], actions[i]);
     if (missing > 0)
@@ -315,7 +363,7 @@ int main(int argc, char **argv)
     for (int i = 0; i < 256; i++)
         if (refused_steps[i])
             printf(" %d: %lu", i, refused_steps[i]);
-    printf("), %lu cold starts (refused 10: %lu 13: %lu), %lu with lengths from 4 GiB\n", starts, refused_starts[10],
-           refused_starts[13], huge);
+    printf("), %lu cold starts (refused 10: %lu 13: %lu), ", starts, refused_starts[10], refused_starts[13]);
+    printf("%lu asked (standing nowhere %lu), %lu with lengths from 4 GiB\n", asked, silent, huge);
     return 0;
 }

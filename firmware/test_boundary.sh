@@ -1,5 +1,5 @@
 #!/bin/sh
-# test_boundary.sh [CALLS [SEED]]: the library held to the independent model by test_boundary.c; then the proof that the test can fail:
+# test_boundary.sh [CALLS [SEED]]: the libraries held to the independent model by test_boundary.c; then the proof that the test can fail:
 # with each of the damages of spoil.h, and with too few calls to see every refusal, it must exit with 1.
 set -eu
 cd "$(dirname "$0")"
@@ -15,7 +15,7 @@ trap 'rm -rf "$t"' EXIT
 compile() {
     program=$1
     shift
-    "$gcc" -O2 -std=gnu11 -Wall -Wextra "$@" -o "$t/$program" test_boundary.c "$t/by_model.o" "$t/gen.o" "$t/model.o" "$archive"
+    "$gcc" -O2 -std=gnu11 -Wall -Wextra "$@" -o "$t/$program" test_boundary.c "$t/by_model.o" "$t/gen.o" "$t/model.o" "$archive" "$asks"
 }
 
 # Fails unless the test with these arguments exits with 1, which it does only with a difference or something unseen.
@@ -40,5 +40,5 @@ while grep -q "SPOIL == $((spoils + 1))[ )]" spoil.h; do
     grep -q "^call " "$t/said"
     [ -z "${SAY:-}" ] || echo "damage $spoils: $(head -n 1 "$t/said")"
 done
-[ "$spoils" -eq 30 ] || { echo "spoil.h has $spoils damages where 30 are due" >&2; exit 1; }
+[ "$spoils" -eq 50 ] || { echo "spoil.h has $spoils damages where 50 are due" >&2; exit 1; }
 echo "the test fails, as it must, with each of $spoils damages and with too few calls"

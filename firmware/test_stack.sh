@@ -1,6 +1,6 @@
 #!/bin/sh
 # Shows that `stack` of stack.sh counts known frames exactly, and gives no number where it cannot be sure: room of a size that is
-# known only at the run (alloca), a call or a jump through a pointer, a function that calls itself, one of the C library that was not
+# known only at the run (alloca), a call or a jump through a pointer, also one kept in the frame, a function that calls itself, one of the C library that was not
 # named, a loop that takes stack. The first four are compiled, so that they look as a compiler makes them; the rest is written out.
 set -eu
 cd "$(dirname "$0")"
@@ -22,7 +22,7 @@ int unnamed(void) { return abs(rand()) + 1; }
 int calls_sized(int n) { return sized(n) + 1; }
 C
 cat >"$t/known.s" <<'S'
-        .globl  keep, red, plain, large, small, looped, middle, switched, named, balanced, main
+        .globl  keep, red, plain, large, small, looped, middle, switched, later, other, named, balanced, main
 keep:   ret
 red:    mov     %eax,-0x18(%rsp)        # 8 + 24 below the stack pointer
         ret
@@ -55,6 +55,26 @@ switched:
         add     %rcx,%rax
         jmp     *%rax
 1:      ret
+2:      .long   1b-2b
+later:  sub     $0x18,%rsp              # 8 + 24: an entry of the table kept in the frame till the jump
+        lea     2f(%rip),%rcx
+        movslq  (%rcx,%rdi,4),%rax
+        add     %rcx,%rax
+        mov     %rax,0x8(%rsp)
+        xor     %eax,%eax
+        jmp     *0x8(%rsp)
+1:      add     $0x18,%rsp
+        ret
+2:      .long   1b-2b
+other:  sub     $0x18,%rsp              # the same, and something else is stored in that word
+        lea     2f(%rip),%rcx
+        movslq  (%rcx,%rdi,4),%rax
+        add     %rcx,%rax
+        mov     %rax,0x8(%rsp)
+        mov     %rsi,0x8(%rsp)
+        jmp     *0x8(%rsp)
+1:      add     $0x18,%rsp
+        ret
 2:      .long   1b-2b
 named:  push    %rbx                    # 8 + 8 and the return address
         call    rand@plt
@@ -92,8 +112,9 @@ counts 80 plain
 counts 12336 large
 counts 136 small
 counts 8 switched
+counts 32 later
 counts 24 named rand
 counts 24 balanced
-for function in sized pointed tail_pointed again unnamed calls_sized looped middle named missing; do
+for function in sized pointed tail_pointed again unnamed calls_sized looped middle other named missing; do
     refuses $function
 done

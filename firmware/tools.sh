@@ -1,7 +1,8 @@
 # Sourced by scripts that stand in a folder of the root, this one or another: finds the tools for x86-64, for which the library is
-# compiled, and the library. Sets gcc, prefix (of nm, size and objdump), archive; run runs a program, through qemu-x86_64 where the
-# processor is no x86-64.
+# compiled, and the two libraries. Sets gcc, prefix (of nm, size and objdump), archive (cold start and step), asks (what is asked beside a
+# step); run runs a program, through qemu-x86_64 where the processor is no x86-64.
 archive=../target/staticlib/libfirmware.a
+asks=../target/staticlib/libasks.a
 
 need() {
     command -v "$1" >/dev/null || { echo "missing: $1 ($2)" >&2; exit 2; }
@@ -21,11 +22,14 @@ else
     run() { qemu-x86_64 -L "$sysroot" "$@"; }
 fi
 
-# Proves and builds the library where it is not built, or is older than its sources.
+# Proves and builds each of them where it is not built, or is older than the sources.
 library() {
-    if [ ! -f "$archive" ] || [ -n "$(find ../crates ../crates.txt \( -name '*.rt' -o -name '*.antt' -o -name crates.txt \) -newer "$archive")" ]; then
-        need rt "the Rattle toolchain: builds $archive"
-        echo "proving and building the library, some minutes the first time"
-        said=$(cd .. && rt staticlib firmware 2>&1) || { echo "$said" >&2; exit 1; }
-    fi
+    for built in "$archive" "$asks"; do
+        if [ ! -f "$built" ] || [ -n "$(find ../crates ../crates.txt \( -name '*.rt' -o -name '*.antt' -o -name crates.txt \) -newer "$built")" ]; then
+            need rt "the Rattle toolchain: builds $built"
+            echo "proving and building ${built##*/}, some minutes the first time"
+            built=${built##*/lib}
+            said=$(cd .. && rt staticlib "${built%.a}" 2>&1) || { echo "$said" >&2; exit 1; }
+        fi
+    done
 }

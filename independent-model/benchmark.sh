@@ -81,16 +81,19 @@ else
     counted() { qemu-x86_64 -L "$sysroot" -plugin "$t/count.so" "$@"; }
     preloaded() { qemu-x86_64 -L "$sysroot" -E LD_PRELOAD="$t/rooms.so" "$1"; }
 fi
-(cd .. && rt check report steps sheet >"$t/said") || { cat "$t/said" >&2; fail "report, steps or sheet is not proved"; }
+(cd .. && rt check report steps sheet rescues >"$t/said") || { cat "$t/said" >&2; fail "report, steps, sheet or rescues is not proved"; }
 library >&2
 make -s bench classes >&2
 sh ../firmware/test_stack.sh >"$t/said" || fail "the stack cannot be found: firmware/test_stack.sh fails"
 report=../target/bin/report
 steps=../target/bin/steps
 sheet=../target/bin/sheet
+rescues=../target/bin/rescues
 model=$t/report_model
 "$gcc" -O3 -std=c11 -o "$model" report_model.c model.c
-"$gcc" -O2 -std=c11 -o "$t/example" ../firmware/example.c "$archive"
+"$gcc" -O3 -std=c11 -DSHEET_MAIN -o "$t/sheet_model" sheet_model.c model.c
+"$gcc" -O3 -std=c11 -o "$t/rescue_model" rescue_model.c model.c
+"$gcc" -O2 -std=c11 -o "$t/example" ../firmware/example.c "$archive" "$asks"
 "$gcc" -O2 -std=c11 -shared -fPIC -o "$t/rooms.so" rooms.c
 printf '\003' >"$t/one"
 
@@ -129,6 +132,19 @@ elapsed() {
 
 # quotient A B PLACES
 quotient() { awk -v a="$1" -v b="$2" "BEGIN { printf \"%.$3f\", a / b }"; }
+
+# So many images A2, all the same: a sound one, or one with all eleven fields bad (as in rescue_count.c).
+images() {
+    case $1 in
+    sound) one='\242\1\2\3\2\0\1\0\1\3\1\0\0\1\2\3\2\0\5\1\1\2\3\5\0\1\1\377\377\377\4\1\4\0\0\0\0\5\1\0\0\7' ;;
+    bad) one='\242\1\2\5\3\2\3\377\2\3\1\1\0\1\2\3\2\1\5\0\1\2\3\0\0\0\0\0\0\1\4\1\4\0\0\77\377\5\1\0\177\377' ;;
+    esac
+    n=0
+    while [ "$n" -lt "$2" ]; do
+        printf "$one"
+        n=$((n + 1))
+    done
+}
 
 # The beginning of a row for a program on a log of so many records: instructions a record, nanoseconds a record. $total is left.
 row() {
@@ -238,15 +254,50 @@ own_stack() {
             printf "| mean, instructions | %.1f | %.1f |\n| dearest, instructions | %d | %d |\n| its class in classes.c | %s | %s |\n", p / NR, m / NR, top, peer, top_at, peer_at
         }' "$t/classes"
     echo
-    echo "A record of \`sheet\`, its printing with it, on the first 4,096 bytes:"
+    echo "A record of \`sheet\`, its reading and printing with it, on the first 4,096 bytes:"
     echo
-    echo "| log | records | instructions a record |"
-    echo "|---|---|---|"
+    echo "| log | records | instructions a record, proved | model | proved / model |"
+    echo "|---|---|---|---|---|"
     for mix in deep even; do
+        count_log "$t/$mix-sheet" "$t/sheet_model"
+        sheet_model=$total
+        mv "$t/out" "$t/peer"
         count_log "$t/$mix-sheet" "$sheet"
+        sheet_proved=$total
+        same "$t/out" "$t/peer" "the sheets"
         records=$(tail -n 1 "$t/out" | cut -d ' ' -f 3)
-        echo "| $mix | $records | $(quotient "$total" $((records - 1)) 0) |"
+        echo "| $mix | $records | $(quotient "$sheet_proved" $((records - 1)) 0) | $(quotient "$sheet_model" $((records - 1)) 0) | $(quotient "$sheet_proved" "$sheet_model" 2) |"
+        echo "$sheet_proved $sheet_model $records" >"$t/$mix-sheets"
     done
+
+    echo
+    echo "A rescue, the walk to the next image with it, of an image that is sound and of one with all eleven fields bad (those of rescue_count.c):"
+    echo
+    echo "| image | instructions a rescue, proved | model | proved / model |"
+    echo "|---|---|---|---|"
+    for image in sound bad; do
+        images $image 1 >"$t/first"
+        images $image 1001 >"$t/images"
+        for program in "$rescues" "$t/rescue_model"; do
+            count "$t/first" "$program"
+            first=$collected
+            count "$t/images" "$program"
+            echo $((collected - first))
+            mv "$t/out" "$t/$(basename "$program").out"
+        done >"$t/two"
+        same "$t/rescues.out" "$t/rescue_model.out" "the rescues"
+        { read -r rescue_proved; read -r rescue_peer; } <"$t/two"
+        echo "| $image | $(quotient "$rescue_proved" 1000 0) | $(quotient "$rescue_peer" 1000 0) | $(quotient "$rescue_proved" "$rescue_peer" 2) |"
+        echo "$rescue_proved $rescue_peer" >"$t/$image-rescues"
+    done
+
+    echo
+    echo "## The call from C"
+    echo
+    echo "What \`firmware/measure.sh\` printed: a call of \`resheftal_step\` beside the model's reading, step and writing; the walk along the log and an empty call are subtracted."
+    echo
+    sh ../firmware/measure.sh >"$t/calls" || fail "firmware/measure.sh fails"
+    cat "$t/calls"
 
     echo
     echo "## Code and stack"
@@ -295,6 +346,24 @@ for mix in deep even; do
 done
 # 1.1 times a whole number, rounded down: a whole number is at most the one exactly where it is at most the other.
 aim "dearest event, instructions: 1.1 times the model's dearest, $dearest_model (is $(quotient "$dearest" "$dearest_model" 4))" "$dearest" $((11 * dearest_model / 10)) || :
+# the call from C by the rows of firmware/measure.sh, in tenths of an instruction
+tenths() { awk -F ' *[|] *' -v row="$1" -v at="$2" '$2 == row { sub(/[.]/, "", $at); print $at; exit }' "$t/calls"; }
+for mix in deep even; do
+    call=$(tenths $mix 5)
+    aim "call from C, log '$mix', tenths of an instruction a call: 1.0 times the model (is $(quotient "$call" "$(tenths $mix 6)" 4))" "$call" "$(tenths $mix 6)" || :
+done
+call=$(tenths 'dearest, instructions' 3)
+aim "dearest call from C, instructions: 1.0 times the model's dearest" "$call" "$(tenths 'dearest, instructions' 4)" || :
+for image in sound bad; do
+    read -r rescue_proved rescue_peer <"$t/$image-rescues"
+    aim "rescue, image '$image', 1,000 of them, instructions: 1.0 times the model (is $(quotient "$rescue_proved" "$rescue_peer" 4))" "$rescue_proved" "$rescue_peer" || :
+done
+for mix in deep even; do
+    read -r sheet_proved sheet_model records <"$t/$mix-sheets"
+    most=500
+    [ $mix = deep ] || most=400
+    aim "sheet, log '$mix', instructions: $most a record (is $(quotient "$sheet_proved" $((records - 1)) 0))" "$sheet_proved" $((most * (records - 1))) || :
+done
 aim "deepest stack of a step called from outside, bytes" "$step_stack" 512 || :
 aim "deepest stack of the run, bytes" "$run_stack" 640 || :
 echo
@@ -321,6 +390,27 @@ echo "|---|---|---|---|"
         echo "$(quotient "$run_proved" $((records - 1)) 4) run, mean record of the log '$mix'"
     done
 } | awk '{ n = $1; sub(/^[^ ]* /, ""); printf "| %s | %.1f | %.1f | %.1f |\n", $0, n, n / 66, 3 * n / 66 }'
+echo
+# deep or sound / even or bad, of the files A and B: the quotient of their k-th word by the number N
+pair() { echo "$(quotient "$(cut -d ' ' -f "$3" "$1")" "$4" 1) / $(quotient "$(cut -d ' ' -f "$3" "$2")" "$5" 1)"; }
+records_deep=$(cut -d ' ' -f 5 "$t/deep-totals")
+records_even=$(cut -d ' ' -f 5 "$t/even-totals")
+cat <<'TEXT'
+## Beside C written for speed alone
+
+"As cheap as C" in these pages means: as cheap as the independent model, a C written to be read beside the documents and compiled at -O3. A C written for speed alone (computed goto, packed tables, tests on the image's bytes, no separate question whether a state is sound where the image's bytes were asked) is faster. It was written and measured once, outside this repository, in instructions on the same logs; its column is kept as it was told and is measured by no script here. Logs deep / even; of a rescue an image that is sound / bad.
+
+| | proved | model | C for speed alone |
+|---|---|---|---|
+TEXT
+echo "| run | $(pair "$t/deep-totals" "$t/even-totals" 1 $((records_deep - 1)) $((records_even - 1))) | $(pair "$t/deep-totals" "$t/even-totals" 2 $((records_deep - 1)) $((records_even - 1))) | 29.0 / 22.5 |"
+echo "| step on bytes, the walk with it | $(pair "$t/deep-totals" "$t/even-totals" 3 $((records_deep - 1)) $((records_even - 1))) | $(pair "$t/deep-totals" "$t/even-totals" 4 $((records_deep - 1)) $((records_even - 1))) | 171 / 152, without the walk (some 22) |"
+echo "| call from C | $(quotient "$(tenths deep 5)" 10 1) / $(quotient "$(tenths even 5)" 10 1) | $(quotient "$(tenths deep 6)" 10 1) / $(quotient "$(tenths even 6)" 10 1) | 199 / 161 |"
+echo "| rescue, sound / bad | $(pair "$t/sound-rescues" "$t/bad-rescues" 1 1000 1000) | $(pair "$t/sound-rescues" "$t/bad-rescues" 2 1000 1000) | 182 / 194 |"
+sheets_deep=$(($(cut -d ' ' -f 3 "$t/deep-sheets") - 1))
+sheets_even=$(($(cut -d ' ' -f 3 "$t/even-sheets") - 1))
+echo "| \`sheet\`, whole program | $(pair "$t/deep-sheets" "$t/even-sheets" 1 $sheets_deep $sheets_even) | $(pair "$t/deep-sheets" "$t/even-sheets" 2 $sheets_deep $sheets_even) | 121 / 92 |"
+echo "| dearest step / call | $dearest / $(tenths 'dearest, instructions' 3) | $dearest_model / $(tenths 'dearest, instructions' 4) | 282 / 294 |"
 echo
 cat "$t/tables"
 exit "$status"

@@ -1048,7 +1048,7 @@ static void test_run(void)
     /* 18 and 17 count as refused */
     RUN(THREE TIMEOUT("03") UP("03") CALL("04"), 9, 0, 38, 6, 3, 2, 0, 0, 0, 0, 0);
     RUN(THREE TIMEOUT("03") UP("03") CALL("04"), 5, 1, 31, 5, 2, 2, 0, 0, 0, 0, 0);
-    /* the step */
+    /* an order that closes two lost places */
     RUN(CALL("01") CALL("02") LOST_("01") LOST_("02") ORDER("03") ORDER_CLOSING("04"), 9, 0, 38, 6, 0, 4, 2, 0, 0, 0, 2);
     /* refused runs */
     const Bytes log = hex(THREE);

@@ -21,6 +21,7 @@ use Rattle.unit.specs.OnRecords.{applied, onRecord, written}
 use Rattle.unit.specs.Forms.{packed, stepped}
 use Rattle.unit.specs.Runs.{run}
 use Rattle.image.specs.Images.{writeA2, imagedA2, writeA1, imagedA1, readImage, readA2}
+use Rattle.image.specs.Calls.{onImage, imageAfter, actionsAfter, calledBy}
 use Rattle.image.specs.Rescue.{rescue, rescued}
 use Rattle.text.specs.Sheets.{sheetCount, sheetPlaced}
 use Rattle.onsight.specs.Procedures as onsight
@@ -37,6 +38,7 @@ use Rattle.marks.specs.Building.{built, builtRoom, extended, extendedRoom}
 use Rattle.marks.specs.Lookup.{lookedUp}
 use Rattle.firmware.specs.Calls.{seenAfter}
 use Rattle.firmware.specs.Starts.{limitsOf, startReturned, startImage}
+use Rattle.asks.specs.Asks.{readsReturned, standingReturned}
 use Rattle.record.proofs as in-record
 use Rattle.unit.proofs as in-unit
 use Rattle.image.proofs as in-image
@@ -47,6 +49,7 @@ use Rattle.judge.proofs as in-judge
 use Rattle.shunter.proofs as in-shunter
 use Rattle.marks.proofs as in-marks
 use Rattle.firmware.proofs as in-firmware
+use Rattle.asks.proofs as in-asks
 
 -- demand D-1-1: `unit:cold_start`, of X numbers and n: 13
 pub cold-start-once : One in-unit.start.cold_start.Reads.Post (λ (limits, _). coldStart limits)
@@ -106,6 +109,19 @@ read-a2-once κ entry exit r p = p
 pub rescue-once : OneLent in-image.rescue.rescue.Reads.Post (λ (image, _). now image)
     (λ (image, _). (rescue (now image), rescued (now image)))
 rescue-once κ entry exit r p = p
+
+-- demand D-1-1: `image:step_image`, of a lent image A2, a record and a lent action buffer: 10, then 1, 2, 1, 11 of the image, then
+-- 1, 2, 1, 3 and the event's
+pub step-image-once : OneLent {L = Bytes × Bytes} in-image.call.step_image.Reads.Post
+    (λ (image, (_, (actions, _))). (now image, now actions))
+    (λ (image, (bytes, (actions, _))). (
+      calledBy (onImage (now image) (now bytes) (length (now actions))),
+      (
+        imageAfter (onImage (now image) (now bytes) (length (now actions))) (now image),
+        actionsAfter (onImage (now image) (now bytes) (length (now actions))) (now actions),
+      ),
+    ))
+step-image-once κ entry exit r p = (p .0, ap₂ (λ a b. (a, b)) (p .1) (p .2))
 
 -- demand D-1-1: `text:sheet_into`, of a log and a lent buffer: 0 bytes where it is under the room that every sheet has
 pub sheet-into-once : OneLent in-text.sheet.sheet_into.Reads.Post (λ (_, (buffer, _)). now buffer)
@@ -205,3 +221,12 @@ pub firmware-step-once : OneLent {L = Bytes × Bytes} in-firmware.step.resheftal
       (seenAfter (now image) (now bytes) (now buffer) .image, seenAfter (now image) (now bytes) (now buffer) .actions),
     ))
 firmware-step-once κ entry exit r p = (p .0, ap₂ (λ a b. (a, b)) (p .1) (p .2))
+
+-- demand D-1-1: `asks:resheftal_reads`, of an image: 1, 2, 1, 11, as minus the number
+pub asks-reads-once : One in-asks.ask.resheftal_reads.Reads.Post (λ (image, _). readsReturned (now image))
+asks-reads-once κ entry exit r p = p
+
+-- demand D-1-1: `asks:resheftal_standing`, of an image and a record: 1, 2, 1, 11 of the image, as minus the number
+pub asks-standing-once : One in-asks.ask.resheftal_standing.Reads.Post
+    (λ (image, (bytes, _)). standingReturned (now image) (now bytes))
+asks-standing-once κ entry exit r p = p

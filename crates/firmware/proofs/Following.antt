@@ -24,10 +24,12 @@ use Rattle.unit.specs.declared.start.Started.{Started}
 use Rattle.image.specs.Images.{imageA2}
 use Rattle.image.proofs.RoundTrips.{readA2-written}
 use Rattle.history.specs.Histories.{after, summed}
-use Rattle.firmware.specs.Calls.{onImage, returned, imageAfter, Seen, seenAfter}
+use Rattle.image.specs.Calls.{onImage, imageAfter}
+use Rattle.firmware.specs.Calls.{returned, Seen, seenAfter}
 use Rattle.firmware.specs.Along.{Lent, lentRecords, roomy, seenAlong, lastImage, isAccepted}
 use Rattle.firmware.specs.AlongWords.{countOf, overSeen}
-use Rattle.firmware.proofs.Calling.{onImage-no-room, onImage-steps, onImage-none, onImage-few}
+use Rattle.image.proofs.Calling.{onImage-no-room, onImage-steps}
+use Rattle.firmware.proofs.Calling.{onImage-none, onImage-few}
 
 -- any room of 20 bytes and more is as good as 20
 pub onRecord-room : (s : State) (bytes : List ℕ) (room : ℕ)

@@ -6,11 +6,8 @@ ghost use mir.Syntax.{w32};
 ghost use mir.Val.{SFits};
 ghost use Rattle.unit.specs.Forms.{mostActions};
 ghost use Rattle.firmware.specs.Calls.{seenAfter};
-use image::read::read_a2;
-use image::write::write_a2;
-use unit::bytes::ACTION_ROOM;
+use image::call::step_image;
 use wire::refusal::ACCEPTED;
-use wire::refusal::NO_ROOM;
 
 // Minus the number of a refusal.
 pub(crate) fn minus(code: u8) -> i32
@@ -37,19 +34,10 @@ pub extern "C" fn resheftal_step(image: &mut [u8], bytes: &[u8], actions: &mut [
         × (now (image .exit) ≡ seenAfter (now (image .entry)) (now (bytes .entry)) (now (actions .entry)) .image)
         × (now (actions .exit) ≡ seenAfter (now (image .entry)) (now (bytes .entry)) (now (actions .entry)) .actions) ⌝ }
 {
-    if actions.len() < ACTION_ROOM {
-        return minus(NO_ROOM);
+    let called = step_image(image, bytes, actions);
+    let code = called.code;
+    if code != ACCEPTED {
+        return minus(code);
     }
-    let held = read_a2(image);
-    if held.code != ACCEPTED {
-        return minus(held.code);
-    }
-    let state = held.state;
-    let stepped = state.on_record(bytes, actions);
-    if stepped.code != ACCEPTED {
-        return minus(stepped.code);
-    }
-    let next = stepped.state;
-    write_a2(next, image);
-    number(stepped.count)
+    number(called.count)
 }

@@ -1,9 +1,14 @@
 pub mod Bytes
 pub mod RoundTrips
 pub mod Putting
+pub mod Spelt
 pub mod Taking
 pub mod Mending
 pub mod Rescuing
 pub mod Left
+pub mod Fields
+pub mod EachField
+pub mod Keeping
+pub mod Calling
 pub mod OneAnswer
 pub mod Again

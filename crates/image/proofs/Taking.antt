@@ -2,10 +2,10 @@
 -- Defines: CopiedTo.
 -- Proves: phaseOf-other, place-free, place-held, last-none, last-some, same-end, same-more, same-other, same-lengths, read-a2-empty,
 -- read-a2-unknown, read-a2-wrong, read-a2-whole, read-empty, read-other, read-a1-wrong, read-a1-whole, body-by, part-all,
--- image-body, copy-more, copy-length, copy-end.
+-- copy-more, copy-length, copy-end.
 use mathlib.Core.Path.{_≡_, refl, sym, ap, ap₂, _∙_}
 use mathlib.Core.Bool.{Bool, true, false, cond, _&&_}
-use mathlib.Core.List.{List, [], _∷_, _++_, append-nil}
+use mathlib.Core.List.{List, [], _∷_, _++_}
 use Prim.Native.Nat.{ℕ, zero, suc, _+_, _-_, _≤_, _<_}
 use native.Mathlib.Nat.{add-zero, zero-add}
 use native.Mathlib.Numerals.{add-one}
@@ -20,16 +20,16 @@ use Rattle.place.specs.Places.{fleetTries, vacant, seat}
 use Rattle.place.specs.declared.phase.Phase.{Phase}
 use Rattle.place.specs.declared.phase.Phase.the-variants.{Ending}
 use Rattle.place.specs.declared.place.Direction.{Direction}
-use Rattle.unit.specs.States.{placeCount, sound}
+use Rattle.unit.specs.States.{sound}
 use Rattle.unit.specs.declared.last.Last.the-variants.{Unknown, Known}
 use Rattle.unit.specs.declared.state.State.{State}
-use Rattle.image.specs.Images.{kindA1, kindA2, sizeA1, sizeA2, wholeBytes, imageA2, phaseOf}
+use Rattle.image.specs.Images.{kindA1, kindA2, sizeA1, sizeA2, wholeBytes, phaseOf}
 use Rattle.image.specs.Images.{directionOf, heldIn, placeIn, lastIn}
 use Rattle.image.specs.Images.{oldBodySize}
 use Rattle.image.specs.Bodies.{lastFrom}
 use Rattle.image.specs.Images.{stateIn, sameBytes, readRefused, isBodyOf, tailOfA1, readA2, readImage}
 use Rattle.image.specs.Bodies.{readBody}
-use Rattle.image.proofs.Bytes.{bytes-same, wholeBytes-length}
+use Rattle.image.proofs.Bytes.{bytes-same}
 
 -- a number of none of the first four phases
 pub phaseOf-other : (number tries : ℕ)
@@ -201,18 +201,6 @@ body-by body s good own of-body test written =
 -- a slice from a place to its end
 pub part-all : (l : List ℕ) (a : ℕ) → take (length l - a) (drop a l) ≡ drop a l
 part-all l a = take-all (length l - a) (drop a l) (simp length-drop (omega arith))
-
--- an image A2 in an array of its size, after its kind
-pub image-body : (s : State) (image zeros : List ℕ)
-    → length (s .places) ≡ placeCount
-    → length zeros ≡ sizeA2
-    → image ≡ imageA2 s ++ drop sizeA2 zeros
-    → take (sizeA2 - 1) (drop 1 image) ≡ wholeBytes s
-unfolding imageA2
-image-body s image zeros four all wrote =
-    ap (λ l. take (sizeA2 - 1) (drop 1 l))
-    (wrote ∙ ap (_++_ (imageA2 s)) (drop-of-length-le zeros {i = sizeA2} (omega arith)) ∙ append-nil (imageA2 s))
-    ∙ take-all 41 (wholeBytes s) (omega (arith, wholeBytes-length s four))
 
 -- the body of an image A1, copied byte after byte to the front of 41 zeros, and the tries after it
 abbrev pub CopiedTo : List ℕ → ℕ → List ℕ

@@ -10,6 +10,9 @@ pub const SIZE_A1: usize = 37;
 
 pub const SIZE_A2: usize = 42;
 
+// The bytes of a body before its places.
+pub const HEAD_SIZE: usize = 8;
+
 // Where the places begin, and the bytes of each.
 pub const PLACES_AT: usize = 9;
 

@@ -1,47 +1,50 @@
 // Mending a spoilt image A2 in place: what is good stays, and each changed field is listed.
 ghost use mathlib.Core.Path.{_≡_};
-ghost use Prim.Native.Nat.{ℕ, _+_, _≤_, _<_};
-ghost use mathlib.Core.Bool.{true};
-ghost use mathlib.Core.List.{List, [], _∷_, _++_};
-ghost use lib.ListN.{length, set, take, drop};
-ghost use Rattle.unit.specs.States.{placeCount, limitsOk, absentFrom};
-ghost use Rattle.image.specs.Images.{headSize, placeBytes, stateIn, sameBytes};
-ghost use Rattle.image.specs.Bodies.{lastFrom};
-ghost use Rattle.image.specs.Rescue.{within, mendTrain, mendMarks, mendPlace, mendPlaces, keep, keepFirst, mendLast, mended};
-ghost use Rattle.image.specs.Rescue.{mostFields, fieldOffsets, sizeOf, part, changed, listing, left, rescue, rescued};
+ghost use Prim.Native.Nat.{ℕ, _+_, _*_, _≤_, _<_};
+ghost use mathlib.Core.Bool.{_&&_};
+ghost use mathlib.Core.List.{List, []};
+ghost use lib.ListN.{length, set, drop, replicate};
+ghost use Rattle.record.specs.Partners.{partnerAt};
+ghost use Rattle.place.specs.Places.{holds};
+ghost use Rattle.unit.specs.States.{placeCount, some, absentFrom};
+ghost use Rattle.image.specs.Images.{sizeA2, placeSize, lastSize, placeIn, placesIn, stateIn};
+ghost use Rattle.image.specs.Bodies.{placesAt, lastAt};
+ghost use Rattle.image.specs.Rescue.{within, isPlaceOf, isLastOf, fieldOffsets, mostFields, sizeOf, changed, listing, left};
+ghost use Rattle.image.specs.Rescue.{rescue, rescued};
+ghost use Rattle.image.specs.Mends.{headFields, triesAt, Mendable, Field, Cleared, MendedTo};
+ghost use Rattle.wire.specs.Bytes.{byte};
 ghost use Rattle.wire.specs.Refusals.{accepted};
+use crate::layout::KIND_A2;
 use crate::layout::LAST_AT;
 use crate::layout::LAST_SIZE;
 use crate::layout::PLACE_SIZE;
 use crate::layout::PLACES_AT;
-use crate::read::last_in;
+use crate::layout::SIZE_A2;
+use crate::read::HIGHEST_MARK;
+use crate::read::held_of;
 use crate::read::limits_in;
-use crate::read::marks_in;
-use crate::read::place_at;
-use crate::read::read_a2;
-use crate::read::same;
-use crate::read::train_in;
-use crate::write::put_image;
-use crate::write::put_place;
+use crate::read::mark_spelt;
+use crate::read::place_spelt;
 use place::limits::Limits;
-use place::place::Holding;
-use place::place::Place;
 use record::partner::Partner;
 use record::partner::RBC;
-use unit::last::Last;
-use unit::start::cold_start;
-use unit::state::Marks;
-use unit::state::State;
-use unit::state::Train;
+use record::read::HIGHEST_LEVEL;
+use record::read::HIGHEST_MISSION;
+use unit::state::PLACES;
+use unit::state::limits_ok;
 use wire::join::and;
 use wire::join::negated;
-use wire::join::or;
 use wire::refusal::ACCEPTED;
 use wire::refusal::NOT_SOUND;
+use wire::refusal::UNKNOWN_KIND;
+use wire::refusal::WRONG_LENGTH;
 
-const HIGHEST_LEVEL: u64 = record::read::HIGHEST_LEVEL as u64;
+// The first offsets of the places and of the last known RBC, as they are listed.
+const FIRST_PLACE: u8 = PLACES_AT as u8;
 
-const HIGHEST_MISSION: u64 = record::read::HIGHEST_MISSION as u64;
+const NEXT_PLACE: u8 = PLACE_SIZE as u8;
+
+const LAST_FIELD: u8 = LAST_AT as u8;
 
 // The most fields that can change.
 pub const FIELDS: usize = 11;
@@ -51,154 +54,6 @@ pub struct Rescued {
     pub code: u8,
     pub fields: [u8; 11],
     pub count: usize,
-}
-
-// A number in its range, or 0.
-fn within(most: u64, n: u64) -> u64
-    ensures { λ r. ⌜ r ≡ within most n ⌝ }
-{
-    if n <= most { n } else { 0 }
-}
-
-fn mend_train(train: Train) -> Train
-    ensures { λ r. ⌜ r ≡ mendTrain train ⌝ }
-{
-    Train {
-        level: within(HIGHEST_LEVEL, train.level),
-        mission: within(HIGHEST_MISSION, train.mission),
-    }
-}
-
-// Inside a hole, its end is not marked.
-fn mend_marks(marks: Marks) -> Marks
-    ensures { λ r. ⌜ r ≡ mendMarks marks ⌝ }
-{
-    Marks {
-        inside: marks.inside,
-        mode: marks.mode,
-        manual: marks.manual,
-        end: and(marks.end, negated(marks.inside)),
-    }
-}
-
-// Whether the seven bytes from here on are the ones that this place writes.
-fn is_written(body: &[u8], at: usize, place: Place) -> bool
-    requires { ⌜ (at < 64) × (at + 7 ≤ length (now body)) ⌝ }
-    ensures { λ r. ⌜ r ≡ sameBytes (placeBytes place) (take 7 (drop at (now (body .entry)))) ⌝ }
-{
-    let mut seven = [0u8; 7];
-    put_place(&mut seven, 0, place);
-    same(&seven, &body[at..at + PLACE_SIZE])
-}
-
-// The place that the seven bytes from here on stand for, free where it is not sound by itself or writes others.
-fn mend_place(body: &[u8], at: usize, limits: Limits) -> Place
-    requires { ⌜ (at < 64) × (at + 7 ≤ length (now body)) ⌝ }
-    ensures { λ r. ⌜ r ≡ mendPlace limits (drop at (now (body .entry))) ⌝ }
-{
-    let place = place_at(body, at);
-    if place.is_sound(limits) {
-        if is_written(body, at, place) {
-            place
-        } else {
-            Place::free()
-        }
-    } else {
-        Place::free()
-    }
-}
-
-// Whether none of three places holds the partner of a fourth.
-fn is_absent(a: Place, b: Place, c: Place, place: Place) -> bool
-    ensures { λ r. ⌜ r ≡ absentFrom (a ∷ b ∷ c ∷ []) (place .holding) ⌝ }
-{
-    let holding = place.holding;
-    match holding {
-        Holding::Free => true,
-        Holding::Held {
-            direction: _,
-            phase: _,
-            partner,
-        } => negated(or(a.holds(partner), or(b.holds(partner), c.holds(partner)))),
-    }
-}
-
-// The place, free where one of three kept ones holds its partner.
-fn keep(a: Place, b: Place, c: Place, place: Place) -> Place
-    ensures { λ r. ⌜ r ≡ keep (a ∷ b ∷ c ∷ []) place ⌝ }
-{
-    if is_absent(a, b, c, place) {
-        place
-    } else {
-        Place::free()
-    }
-}
-
-// The places that are left, going upwards.
-fn mend_places(body: &[u8], limits: Limits) -> [Place; 4]
-    requires { ⌜ length (now body) ≡ 41 ⌝ }
-    ensures { λ r. ⌜ r ≡ keepFirst [] (mendPlaces limits placeCount (drop headSize (now (body .entry)))) ⌝ }
-{
-    let none = Place::free();
-    let zeroth = mend_place(body, 8, limits);
-    let first = keep(zeroth, none, none, mend_place(body, 15, limits));
-    let second = keep(first, zeroth, none, mend_place(body, 22, limits));
-    let third = keep(second, first, zeroth, mend_place(body, 29, limits));
-    [zeroth, first, second, third]
-}
-
-// Whether the last four bytes are these.
-fn ends_with(body: &[u8], flag: u8, high: u8, middle: u8, low: u8) -> bool
-    requires { ⌜ length (now body) ≡ 41 ⌝ }
-    ensures { λ r. ⌜ r ≡ sameBytes (flag ∷ high ∷ middle ∷ low ∷ []) (take 4 (drop 37 (now (body .entry)))) ⌝ }
-{
-    let four = [flag, high, middle, low];
-    same(&four, &body[37..41])
-}
-
-// The last known RBC, none where its bytes are not 1 and the number of an RBC.
-fn mend_last(body: &[u8]) -> Last
-    requires { ⌜ length (now body) ≡ 41 ⌝ }
-    ensures { λ r. ⌜ r ≡ mendLast (drop lastFrom (now (body .entry))) ⌝ }
-{
-    let last = last_in(body);
-    match last {
-        Last::Unknown => Last::Unknown,
-        Last::Known { high, middle, low } => {
-            let partner = Partner {
-                kind: RBC,
-                high,
-                middle,
-                low,
-            };
-            if partner.can_be_named() {
-                if ends_with(body, 1, high, middle, low) {
-                    last
-                } else {
-                    Last::Unknown
-                }
-            } else {
-                Last::Unknown
-            }
-        }
-    }
-}
-
-// What is left of the state of a body.
-fn mended(body: &[u8]) -> State
-    requires { ⌜ length (now body) ≡ 41 ⌝ }
-    ensures { λ r. ⌜ r ≡ mended (now (body .entry)) ⌝ }
-{
-    let limits = limits_in(body);
-    let train = train_in(body);
-    let marks = marks_in(body);
-    State {
-        limits,
-        train: mend_train(train),
-        marks: mend_marks(marks),
-        places: mend_places(body, limits),
-        last: mend_last(body),
-    }
 }
 
 // The bytes of the field that begins here.
@@ -214,22 +69,13 @@ pub fn size_of(at: usize) -> usize
     }
 }
 
-// Whether the field that begins here has the same bytes in two images.
-fn is_kept(old: &[u8], new: &[u8], at: usize) -> bool
-    requires { ⌜ (length (now old) ≡ 42) × ((length (now new) ≡ 42) × (at + sizeOf at ≤ 42)) ⌝ }
-    ensures { λ r. ⌜ r ≡ sameBytes (part at (now (old .entry))) (part at (now (new .entry))) ⌝ }
-{
-    let end = at + size_of(at);
-    same(&old[at..end], &new[at..end])
-}
-
 // The answer that lists nothing.
 fn nothing(code: u8) -> Rescued
     ensures { λ r. ⌜ r ≡ listing code [] ⌝ }
 {
     Rescued {
         code,
-        fields: [0; 11],
+        fields: [0; FIELDS],
         count: 0,
     }
 }
@@ -240,75 +86,229 @@ fn wide(n: u8) -> usize
     n as usize
 }
 
-impl Rescued {
-    // One field more, after the others.
-    fn add(self, at: u8) -> Rescued
-        requires { ⌜ self .count < mostFields ⌝ }
-        ensures { λ r. ⌜ r ≡ record { code = self .code; fields = set (self .fields) (self .count) at; count = self .count + 1 } ⌝ }
-    {
-        let count = self.count;
-        let mut fields = self.fields;
-        fields[count] = at;
-        Rescued {
-            code: self.code,
-            fields,
-            count: count + 1,
-        }
-    }
-
-    // One field more, where its bytes in the two images are not the same.
-    fn note(self, at: u8, old: &[u8], new: &[u8]) -> Rescued
-        requires { ⌜ (self .count < mostFields)
-            × ((length (now old) ≡ 42) × ((length (now new) ≡ 42) × (at + sizeOf at ≤ 42))) ⌝ }
-        ensures { λ r.
-            ⌜ ((list : List ℕ) → self ≡ listing accepted list
-            → r ≡ listing accepted (list ++ changed (at ∷ []) (now (old .entry)) (now (new .entry)))) ⌝ }
-    {
-        if is_kept(old, new, wide(at)) {
-            self
-        } else {
-            self.add(at)
-        }
-    }
-}
-
-// The answer that lists the fields in which two images differ.
-fn differing(old: &[u8], new: &[u8]) -> Rescued
-    requires { ⌜ (length (now old) ≡ 42) × (length (now new) ≡ 42) ⌝ }
-    ensures { λ r. ⌜ r ≡ listing accepted (changed fieldOffsets (now (old .entry)) (now (new .entry))) ⌝ }
+// Lists a field after the others, and answers how many are listed then.
+fn list_field(fields: &mut [u8], count: usize, at: u8) -> usize
+    requires { ⌜ count < length (now fields) ⌝ }
+    ensures { λ r. ⌜ (r ≡ count + 1) × (now (fields .exit) ≡ set (now (fields .entry)) count at) ⌝ }
 {
-    let firsts = [3u8, 4, 5, 6, 7, 8, 9, 16, 23, 30, 38];
-    let mut answer = nothing(ACCEPTED);
-    let mut i = 0;
-    while i < FIELDS {
-        answer = answer.note(firsts[i], old, new);
-        i += 1;
-    }
-    answer
+    fields[count] = at;
+    count + 1
 }
 
-// Mends a spoilt image.
-fn mend(image: &mut [u8]) -> Rescued
-    requires { ⌜ (length (now image) ≡ 42) × (limitsOk (stateIn (drop 1 (now image)) .limits) ≡ true) ⌝ }
+// Clears a byte that is not good, and lists it.
+fn mend_byte(image: &mut [u8], at: u8, good: bool, fields: &mut [u8], count: usize) -> usize
+    requires { ⌜ (at < length (now image)) × (count < length (now fields)) ⌝ }
+    ensures { λ r.
+        ⌜ Cleared good at 1 (now (image .entry)) (now (fields .entry)) count (now (image .exit)) (now (fields .exit)) r ⌝ }
+{
+    if good {
+        return count;
+    }
+    image[wide(at)] = 0;
+    list_field(fields, count, at)
+}
+
+// Frees a place that is not good, and lists it.
+fn mend_place(image: &mut [u8], at: u8, good: bool, fields: &mut [u8], count: usize) -> usize
+    requires { ⌜ (at + placeSize ≤ length (now image)) × (count < length (now fields)) ⌝ }
+    ensures { λ r.
+        ⌜ Cleared good at placeSize (now (image .entry)) (now (fields .entry)) count (now (image .exit)) (now (fields .exit)) r ⌝ }
+{
+    if good {
+        return count;
+    }
+    let from = wide(at);
+    image[from] = 0;
+    image[from + 1] = 0;
+    image[from + 2] = 0;
+    image[from + 3] = 0;
+    image[from + 4] = 0;
+    image[from + 5] = 0;
+    image[from + 6] = 0;
+    list_field(fields, count, at)
+}
+
+// Forgets a last RBC that is not good, and lists it.
+fn mend_last(image: &mut [u8], good: bool, fields: &mut [u8], count: usize) -> usize
+    requires { ⌜ (length (now image) ≡ sizeA2) × (count < length (now fields)) ⌝ }
+    ensures { λ r.
+        ⌜ Cleared good lastAt lastSize (now (image .entry)) (now (fields .entry)) count (now (image .exit)) (now (fields .exit)) r ⌝ }
+{
+    if good {
+        return count;
+    }
+    image[LAST_AT] = 0;
+    image[LAST_AT + 1] = 0;
+    image[LAST_AT + 2] = 0;
+    image[LAST_AT + 3] = 0;
+    list_field(fields, count, LAST_FIELD)
+}
+
+// The partner of the place that begins here.
+fn partner_in(image: &[u8], at: usize) -> Partner
+    requires { ⌜ (at < 64) × (at + placeSize ≤ length (now image)) ⌝ }
+    ensures { λ r. ⌜ r ≡ partnerAt 3 (drop at (now (image .entry))) ⌝ }
+{
+    Partner {
+        kind: image[at + 3],
+        high: image[at + 4],
+        middle: image[at + 5],
+        low: image[at + 6],
+    }
+}
+
+// Whether a lower place holds the partner of the one that begins here.
+fn repeats(image: &[u8], at: usize) -> bool
+    requires { ⌜ (at < 64) × (at + placeSize ≤ length (now image)) ⌝ }
+    ensures { λ r.
+        ⌜ ((i : ℕ) → at ≡ placesAt + placeSize * i
+        → r ≡ some (holds (partnerAt 3 (drop at (now (image .entry))))) (placesIn i (drop placesAt (now (image .entry))))) ⌝ }
+{
+    let partner = partner_in(image, at);
+    let mut lower = PLACES_AT;
+    loop {
+        if lower >= at {
+            break false;
+        }
+        let other = partner_in(image, lower);
+        if and(image[lower] != 0, partner.same(other)) {
+            break true;
+        }
+        lower += PLACE_SIZE;
+    }
+}
+
+// Whether the place that begins here is kept: it is sound by itself, these are its bytes, and no lower place holds its partner.
+fn keeps_place(image: &[u8], at: usize, limits: Limits) -> bool
+    requires { ⌜ (at < 64) × (at + placeSize ≤ length (now image)) ⌝ }
+    ensures { λ r.
+        ⌜ ((i : ℕ) → at ≡ placesAt + placeSize * i
+        → r ≡ (isPlaceOf limits (drop at (now (image .entry)))
+        && absentFrom (placesIn i (drop placesAt (now (image .entry)))) (placeIn (drop at (now (image .entry))) .holding))) ⌝ }
+{
+    if place_spelt(image, at) {
+        let phase = image[at];
+        if phase == 0 {
+            return true;
+        }
+        let place = held_of(phase, image[at + 1], image[at + 2], partner_in(image, at));
+        if place.is_sound(limits) {
+            negated(repeats(image, at))
+        } else {
+            false
+        }
+    } else {
+        false
+    }
+}
+
+// Whether the last known RBC is kept: it is none or sound, and these are its bytes.
+fn keeps_last(image: &[u8]) -> bool
+    requires { ⌜ length (now image) ≡ sizeA2 ⌝ }
+    ensures { λ r. ⌜ r ≡ isLastOf (drop lastAt (now (image .entry))) ⌝ }
+{
+    let flag = image[LAST_AT];
+    if flag == 0 {
+        return and(
+            image[LAST_AT + 1] == 0,
+            and(image[LAST_AT + 2] == 0, image[LAST_AT + 3] == 0),
+        );
+    }
+    let partner = Partner {
+        kind: RBC,
+        high: image[LAST_AT + 1],
+        middle: image[LAST_AT + 2],
+        low: image[LAST_AT + 3],
+    };
+    and(flag == 1, partner.can_be_named())
+}
+
+// Clears a number over its highest value, and lists it.
+fn mend_number(image: &mut [u8], at: u8, most: u8, fields: &mut [u8], count: usize) -> usize
+    requires { ⌜ (at < length (now image)) × (count < length (now fields)) ⌝ }
+    ensures { λ r.
+        ⌜ ((old : List ℕ) (n : ℕ) → Field old n at 1 → byte (left old) at ≡ within most (byte old at)
+        → MendedTo old n at (now (image .entry)) (now (fields .entry)) count
+        → MendedTo old (n + 1) (at + 1) (now (image .exit)) (now (fields .exit)) r) ⌝ }
+{
+    let good = image[wide(at)] <= most;
+    mend_byte(image, at, good, fields, count)
+}
+
+// Clears the mark of a hole end that is out of range or set inside a hole, and lists it.
+fn mend_end(image: &mut [u8], fields: &mut [u8], count: usize) -> usize
+    requires { ⌜ (length (now image) ≡ sizeA2) × (count < length (now fields)) ⌝ }
+    ensures { λ r.
+        ⌜ ((old : List ℕ) → length old ≡ sizeA2
+        → MendedTo old 5 8 (now (image .entry)) (now (fields .entry)) count
+        → MendedTo old headFields placesAt (now (image .exit)) (now (fields .exit)) r) ⌝ }
+{
+    let good = and(
+        mark_spelt(image[8]),
+        negated(and(image[5] == 1, image[8] == 1)),
+    );
+    mend_byte(image, 8, good, fields, count)
+}
+
+// Mends the level, the mission and the marks.
+fn mend_head(image: &mut [u8], fields: &mut [u8]) -> usize
+    requires { ⌜ Mendable (now image) × (now fields ≡ replicate mostFields 0) ⌝ }
+    ensures { λ r. ⌜ MendedTo (now (image .entry)) headFields placesAt (now (image .exit)) (now (fields .exit)) r ⌝ }
+{
+    let level = mend_number(image, 3, HIGHEST_LEVEL, fields, 0);
+    let mission = mend_number(image, 4, HIGHEST_MISSION, fields, level);
+    let inside = mend_number(image, 5, HIGHEST_MARK, fields, mission);
+    let mode = mend_number(image, 6, HIGHEST_MARK, fields, inside);
+    let manual = mend_number(image, 7, HIGHEST_MARK, fields, mode);
+    mend_end(image, fields, manual)
+}
+
+// Mends the places, going upwards.
+fn mend_places(image: &mut [u8], limits: Limits, fields: &mut [u8], count: usize) -> usize
+    requires { ⌜ (length (now image) ≡ sizeA2) × ((length (now fields) ≡ mostFields) × (count ≤ headFields)) ⌝ }
+    ensures { λ r.
+        ⌜ ((old : List ℕ) → length old ≡ sizeA2 → limits ≡ stateIn (drop 1 old) .limits
+        → MendedTo old headFields placesAt (now (image .entry)) (now (fields .entry)) count
+        → MendedTo old (headFields + placeCount) triesAt (now (image .exit)) (now (fields .exit)) r) ⌝ }
+{
+    let mut listed = count;
+    let mut i = 0;
+    let mut at = FIRST_PLACE;
+    while i < PLACES {
+        let good = keeps_place(image, wide(at), limits);
+        listed = mend_place(image, at, good, fields, listed);
+        i += 1;
+        at += NEXT_PLACE;
+    }
+    listed
+}
+
+// Mends an image, field by field, and answers how many are listed.
+fn mend_fields(image: &mut [u8], limits: Limits, fields: &mut [u8]) -> usize
+    requires { ⌜ Mendable (now image)
+        × ((limits ≡ stateIn (drop 1 (now image)) .limits) × (now fields ≡ replicate mostFields 0)) ⌝ }
+    ensures { λ r. ⌜ MendedTo (now (image .entry)) mostFields sizeA2 (now (image .exit)) (now (fields .exit)) r ⌝ }
+{
+    let head = mend_head(image, fields);
+    let places = mend_places(image, limits, fields, head);
+    let good = keeps_last(image);
+    mend_last(image, good, fields, places)
+}
+
+// Mends an image with good limits.
+fn mend(image: &mut [u8], limits: Limits) -> Rescued
+    requires { ⌜ Mendable (now image) × (limits ≡ stateIn (drop 1 (now image)) .limits) ⌝ }
     ensures { λ r.
         ⌜ (r ≡ listing accepted (changed fieldOffsets (now (image .entry)) (left (now (image .entry)))))
         × (now (image .exit) ≡ left (now (image .entry))) ⌝ }
 {
-    let state = mended(&image[1..]);
-    let mut fresh = [0u8; 42];
-    put_image(&mut fresh, state);
-    let answer = differing(image, &fresh);
-    put_image(image, state);
-    answer
-}
-
-// Whether the X numbers and the number of tries of an image A2 are in their ranges.
-fn has_limits(image: &[u8]) -> bool
-    requires { ⌜ length (now image) ≡ 42 ⌝ }
-    ensures { λ r. ⌜ r ≡ limitsOk (stateIn (drop 1 (now (image .entry))) .limits) ⌝ }
-{
-    let start = cold_start(limits_in(&image[1..]));
-    start.code == ACCEPTED
+    let mut fields = [0u8; FIELDS];
+    let count = mend_fields(image, limits, &mut fields);
+    Rescued {
+        code: ACCEPTED,
+        fields,
+        count,
+    }
 }
 
 // Mends an image A2 in place and lists each changed field by its first offset: refusals 1 (empty), 2, 1 (length), and 11 where the X
@@ -319,15 +319,19 @@ pub fn rescue(image: &mut [u8]) -> Rescued
         ⌜ (r ≡ rescue (now (image .entry)))
         × (now (image .exit) ≡ rescued (now (image .entry))) ⌝ }
 {
-    let read = read_a2(image);
-    let code = read.code;
-    if code == NOT_SOUND {
-        if has_limits(image) {
-            mend(image)
-        } else {
-            nothing(code)
-        }
+    if image.len() == 0 {
+        return nothing(WRONG_LENGTH);
+    }
+    if image[0] != KIND_A2 {
+        return nothing(UNKNOWN_KIND);
+    }
+    if image.len() != SIZE_A2 {
+        return nothing(WRONG_LENGTH);
+    }
+    let limits = limits_in(&image[1..]);
+    if limits_ok(limits) {
+        mend(image, limits)
     } else {
-        nothing(code)
+        nothing(NOT_SOUND)
     }
 }

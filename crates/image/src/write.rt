@@ -86,7 +86,7 @@ fn put_seven(s: &mut [u8], at: usize, phase: u8, direction: u8, tries: u8, partn
 }
 
 // Writes the seven bytes of a place.
-pub(crate) fn put_place(s: &mut [u8], at: usize, place: Place)
+fn put_place(s: &mut [u8], at: usize, place: Place)
     requires { ⌜ at + 7 ≤ length (now s) ⌝ }
     ensures { λ r. ⌜ now (s .exit) ≡ sets (now (s .entry)) at (placeBytes place) ⌝ }
 {

@@ -1,6 +1,6 @@
 -- No second answer satisfies the contract of a public function: a line for each of this crate's, over the contract as the checker names it.
 -- Proves: phase-number-once, phase-tries-once, direction-number-once, place-free-once, place-held-once,
--- place-is-free-once, place-partner-once, place-held-phase-once, place-holds-once, place-is-sound-once, place-closed-by-once,
+-- place-is-free-once, place-partner-once, place-held-phase-once, place-holds-once, place-is-sound-once, place-close-once,
 -- place-after-once, place-turn-once, turn-is-taken-once.
 use mathlib.Core.Path.{_≡_, sym, _∙_}
 use Rattle.place.proofs.phase.Phase.number.Reads as phase-number
@@ -13,7 +13,7 @@ use Rattle.place.proofs.place.Place.partner.Reads as place-partner
 use Rattle.place.proofs.place.Place.held_phase.Reads as place-held-phase
 use Rattle.place.proofs.place.Place.holds.Reads as place-holds
 use Rattle.place.proofs.place.Place.is_sound.Reads as place-is-sound
-use Rattle.place.proofs.place.Place.closed_by.Reads as place-closed-by
+use Rattle.place.proofs.place.Place.close.Reads as place-close
 use Rattle.place.proofs.place.Place.after.Reads as place-after
 use Rattle.place.proofs.place.Place.turn.Reads as place-turn
 use Rattle.place.proofs.turn.Turn.is_taken.Reads as turn-is-taken
@@ -78,11 +78,11 @@ pub place-is-sound-once : (κ : _) (self : _) (limits : _) (r₁ : _) (r₂ : _)
     → r₁ ≡ r₂
 place-is-sound-once κ self limits r₁ r₂ p q = p ∙ sym q
 
-pub place-closed-by-once : (κ : _) (self : _) (which : _) (r₁ : _) (r₂ : _)
-    → place-closed-by.Post κ (self, (which, tt)) r₁ (self, (which, tt))
-    → place-closed-by.Post κ (self, (which, tt)) r₂ (self, (which, tt))
+pub place-close-once : (κ : _) (self : _) (which : _) (r₁ : _) (r₂ : _)
+    → place-close.Post κ (self, (which, tt)) r₁ (self, (which, tt))
+    → place-close.Post κ (self, (which, tt)) r₂ (self, (which, tt))
     → r₁ ≡ r₂
-place-closed-by-once κ self which r₁ r₂ p q = p ∙ sym q
+place-close-once κ self which r₁ r₂ p q = p ∙ sym q
 
 pub place-after-once : (κ : _) (self : _) (turn : _) (r₁ : _) (r₂ : _)
     → place-after.Post κ (self, (turn, tt)) r₁ (self, (turn, tt))

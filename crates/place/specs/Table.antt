@@ -1,6 +1,7 @@
 -- Document 01, "Rules of one step", the part on one place: the phase table, closing, judging a version.
 -- Defines: request, release, incompatible, initiate, terminate, established, firstTry, closing, xOf, supported, judged, withTries, oneMore,
--- again, table, column, versionOf, turn, onTurn, takes, numbers, inPhase, placeAfter, inSession, notEnding, closes, closedBy, turnedTo.
+-- again, table, column, versionOf, turn, onTurn, takes, numbers, inPhase, placeAfter, inSession, notEnding, closes, closedBy, turnedTo,
+-- closedTo.
 use Prim.Native.Nat.{ℕ, _+_, _/_}
 use mathlib.Core.Bool.{Bool, true, false, cond, _&&_}
 use mathlib.Core.List.{List, [], _∷_}
@@ -154,3 +155,7 @@ closedBy which place = onHolding Stays (λ d ph p. cond (closes which ph p) (clo
 -- a turn as the code hands it on: whether it is taken, the numbers of its actions with 0 for none, and the place after it
 unfoldable pub turnedTo : Place → Turn → Turned
 turnedTo place t = record { taken = takes t; first = getD (numbers t) 0 0; second = getD (numbers t) 1 0; place = placeAfter place t }
+
+-- and a closing's
+abbrev pub closedTo : Closing → Place → Turned
+closedTo which place = turnedTo place (closedBy which place)

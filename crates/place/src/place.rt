@@ -1,7 +1,7 @@
 // Places: free, or a partner with its direction and phase.
 ghost use mathlib.Core.Path.{_≡_};
 ghost use Rattle.place.specs.Places.{directionNumber, vacant, seat, isFree, partnerOf, heldPhase, holds, fits, placeOk};
-ghost use Rattle.place.specs.Table.{inPhase, placeAfter, closes, closedBy};
+ghost use Rattle.place.specs.Table.{inPhase, placeAfter, closes};
 use crate::limits::Limits;
 use crate::phase::Phase;
 use crate::turn::Closing;
@@ -54,7 +54,7 @@ impl Direction {
 
 impl Closing {
     // Whether a place with this phase and partner is to be closed.
-    fn closes(self, phase: Phase, partner: Partner) -> bool
+    pub(crate) fn closes(self, phase: Phase, partner: Partner) -> bool
         ensures { λ r. ⌜ r ≡ closes self phase partner ⌝ }
     {
         match self {
@@ -173,27 +173,6 @@ impl Place {
                     }
                 } else {
                     false
-                }
-            }
-        }
-    }
-
-    // What a closing makes of it; a place that it is not for stays.
-    pub fn closed_by(self, which: Closing) -> Turn
-        ensures { λ r. ⌜ r ≡ closedBy which self ⌝ }
-    {
-        let holding = self.holding;
-        match holding {
-            Holding::Free => Turn::Stays,
-            Holding::Held {
-                direction: _,
-                phase,
-                partner,
-            } => {
-                if which.closes(phase, partner) {
-                    phase.closing()
-                } else {
-                    Turn::Stays
                 }
             }
         }

@@ -2,7 +2,7 @@
 ghost use mathlib.Core.Path.{_≡_};
 ghost use lib.ListN.{getD};
 ghost use Rattle.place.specs.Places.{heldPhase};
-ghost use Rattle.place.specs.Table.{closing, column, judged, again, numbers, turn, turnedTo, versionOf, takes};
+ghost use Rattle.place.specs.Table.{closing, column, judged, again, numbers, turn, turnedTo, versionOf, takes, closedTo};
 ghost use Rattle.place.specs.Cells.{chosenTurn, Chooses};
 use crate::action::ESTABLISHED;
 use crate::action::INCOMPATIBLE;
@@ -14,6 +14,7 @@ use crate::action::TERMINATE;
 use crate::limits::Limits;
 use crate::phase::FIRST_TRY;
 use crate::phase::Phase;
+use crate::place::Holding;
 use crate::place::Place;
 use crate::table::CLOSE;
 use crate::table::CONTACT;
@@ -237,6 +238,27 @@ impl Place {
             TERMINATE_AGAIN => self.make(phase.again(TERMINATE, limits)),
             JUDGE => self.make(judge(version, limits)),
             _ => self.make(Turn::Stays),
+        }
+    }
+
+    // What a closing makes of this place; one that it is not for stays.
+    pub fn close(self, which: Closing) -> Turned
+        ensures { λ r. ⌜ r ≡ closedTo which self ⌝ }
+    {
+        let holding = self.holding;
+        match holding {
+            Holding::Free => self.make(Turn::Stays),
+            Holding::Held {
+                direction: _,
+                phase,
+                partner,
+            } => {
+                if which.closes(phase, partner) {
+                    self.make(phase.closing())
+                } else {
+                    self.make(Turn::Stays)
+                }
+            }
         }
     }
 

@@ -1,6 +1,6 @@
 -- No second answer satisfies the contract of a public function: a line for each of this crate's, over the contract as the checker names it.
 -- Proves: partner-same-once, partner-is-rbc-once, partner-in-range-once, partner-is-reserved-once, partner-can-be-named-once,
--- length-of-once, read-once, take-one-once, take-once.
+-- length-of-once, read-once, front-at-once, take-one-once, take-once.
 use mathlib.Core.Path.{_≡_, sym, _∙_}
 use Rattle.record.proofs.partner.Partner.same.Reads as partner-same
 use Rattle.record.proofs.partner.Partner.is_rbc.Reads as partner-is-rbc
@@ -9,6 +9,7 @@ use Rattle.record.proofs.partner.Partner.is_reserved.Reads as partner-i
 use Rattle.record.proofs.partner.Partner.can_be_named.Reads as partner-can-be-named
 use Rattle.record.proofs.read.length_of.Reads as length-of
 use Rattle.record.proofs.read.read.Reads as read
+use Rattle.record.proofs.take.front_at.Reads as front-at
 use Rattle.record.proofs.take.take_one.Reads as take-one
 use Rattle.record.proofs.take.take.Reads as take
 
@@ -53,6 +54,12 @@ pub read-once : (κ : _) (s : _) (r₁ : _) (r₂ : _)
     → read.Post κ (s, tt) r₂ (s, tt)
     → r₁ ≡ r₂
 read-once κ s r₁ r₂ p q = p ∙ sym q
+
+pub front-at-once : (κ : _) (log : _) (at : _) (r₁ : _) (r₂ : _)
+    → front-at.Post κ (log, (at, tt)) r₁ (log, (at, tt))
+    → front-at.Post κ (log, (at, tt)) r₂ (log, (at, tt))
+    → r₁ ≡ r₂
+front-at-once κ log at r₁ r₂ p q = p ∙ sym q
 
 pub take-one-once : (κ : _) (log : _) (at : _) (r₁ : _) (r₂ : _)
     → take-one.Post κ (log, (at, tt)) r₁ (log, (at, tt))

@@ -1,7 +1,7 @@
 -- Cross-checks only: rules told a second time.
 -- One record off the front of a log.
--- Proves: part-is, take-end, by-kind, take-unknown, take-short, part-reads, take-whole, taken-short, taken-long, taken-ok, taken-twelve,
--- taken-nothing, taken-unknown, taken-cut, taken-whole.
+-- Proves: part-is, take-end, by-kind, take-unknown, take-short, part-reads, take-whole, asTaken, front-taken, taken-short, taken-long,
+-- taken-ok, taken-twelve, taken-nothing, taken-unknown, taken-cut, taken-whole.
 use mathlib.Core.Path.{_≡_, refl, sym, ap, ap₂, subst, _∙_}
 use mathlib.Core.Bool.{true, false, cond}
 use mathlib.Core.Logic.{inl, inr}
@@ -18,10 +18,13 @@ use Rattle.wire.specs.Refusals.{logTooLong}
 use Rattle.record.specs.Records.{known, lengthOf, reading}
 use Rattle.record.specs.Records.{kinds, rowOf}
 use Rattle.record.specs.Rows.{fields}
-use Rattle.record.specs.Takes.{nothingLeft, recordShort, kindUnknown, longestLog, takeOne, taken}
+use Rattle.record.specs.Takes.{nothingLeft, recordShort, kindUnknown, longestLog, takeOne, taken, frontOf}
 use Rattle.record.specs.TakeWords.{TakenOk}
 use Rattle.record.specs.declared.event.Reading.{Reading}
+use Rattle.record.specs.declared.take.Taken.{Taken}
 use Rattle.record.specs.declared.take.Taken.the-variants.{Whole, Stopped, Refused}
+use Rattle.record.specs.declared.take.Front.{Front}
+use Rattle.record.specs.declared.take.Front.the-variants.{Next, Stop}
 use Rattle.record.proofs.ByKind.{length-none, read-fields}
 
 -- the part of the log that is lent
@@ -81,6 +84,20 @@ module _ (log : List ℕ) (at : ℕ) where
             let long = lengthOf (getD log at 0) in
             ap₂ Whole of-kind (means ∙ ap (λ k. reading (take k (drop at log))) of-kind)
             ∙ sym (by-kind ∙ simp (lt-ltb 0 long has, le-leb long (length log - at) (omega arith)))
+
+-- what stands at a place is neither more nor less than what taking answers there
+abbrev pub asTaken : Front → Taken
+asTaken (Next k r) = Whole k r
+asTaken (Stop stop) = Stopped stop
+
+pub front-taken : (log : List ℕ) → asTaken (frontOf (takeOne log)) ≡ takeOne log
+unfolding takeOne
+front-taken [] = refl
+front-taken (kind ∷ rest) =
+    cond-case (λ t. asTaken (frontOf t) ≡ t) (known kind) _ _
+    (λ is-known.
+    cond-case (λ t. asTaken (frontOf t) ≡ t) (leb (lengthOf kind) (length (kind ∷ rest))) _ _ (λ fits. refl) (λ short. refl))
+    (λ unknown. refl)
 
 -- what is handed over is not too long
 pub taken-short : (log : List ℕ) → length log ≤ longestLog → taken log ≡ takeOne log

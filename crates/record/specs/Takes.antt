@@ -1,5 +1,5 @@
 -- Document 01, "Run over a log", the part on one record, and request Q-8: taking one record off the front of a log.
--- Defines: nothingLeft, budgetUsed, recordShort, kindUnknown, longestLog, takeOne, taken, onTaken.
+-- Defines: nothingLeft, budgetUsed, recordShort, kindUnknown, longestLog, takeOne, taken, onTaken, frontOf.
 use Prim.Native.Nat.{ℕ}
 use mathlib.Core.Bool.{not}
 use mathlib.Core.List.{List, [], _∷_}
@@ -11,6 +11,8 @@ use Rattle.wire.specs.Refusals.{logTooLong}
 use Rattle.record.specs.Records.{known, lengthOf, reading}
 use Rattle.record.specs.declared.take.Taken.{Taken}
 use Rattle.record.specs.declared.take.Taken.the-variants.{Whole, Stopped, Refused}
+use Rattle.record.specs.declared.take.Front.{Front}
+use Rattle.record.specs.declared.take.Front.the-variants.{Next, Stop}
 
 -- "nothing left, stop 0; budget used up, stop 1; kind unknown, stop 3; fewer bytes than the kind's length, stop 2"
 abbrev pub nothingLeft : ℕ
@@ -49,3 +51,9 @@ abbrev pub onTaken : {A : Type 0} → Taken → (ℕ → A) → (ℕ → A) → 
 onTaken (Whole k r) ends whole = whole k
 onTaken (Stopped stop) ends whole = ends stop
 onTaken (Refused r) ends whole = ends r
+
+-- what was taken of a log that is not too long: a whole record, or the stop
+abbrev pub frontOf : Taken → Front
+frontOf (Whole k r) = Next k r
+frontOf (Stopped stop) = Stop stop
+frontOf (Refused r) = Stop r

@@ -1,7 +1,7 @@
 // Taking one record off the front of a log, before it is applied.
 ghost use mathlib.Core.Path.{_≡_};
 ghost use lib.ListN.{drop};
-ghost use Rattle.record.specs.Takes.{takeOne, taken};
+ghost use Rattle.record.specs.Takes.{takeOne, taken, frontOf};
 use crate::event::Reading;
 use crate::read::KIND_MESSAGE;
 use crate::read::NO_KIND;
@@ -28,28 +28,44 @@ pub enum Taken {
     Refused(u8),
 }
 
+// What stands at a place of a log: a whole record, its length and what it means; or the stop.
+pub enum Front {
+    Next { length: usize, reading: Reading },
+    Stop(u8),
+}
+
 // What stands at a place of a log: a whole record, or stop 0, 2 or 3. How long the log is, is not tested.
-pub fn take_one(log: &[u8], at: usize) -> Taken
-    ensures { λ r. ⌜ r ≡ takeOne (drop at (now (log .entry))) ⌝ }
+pub fn front_at(log: &[u8], at: usize) -> Front
+    ensures { λ r. ⌜ r ≡ frontOf (takeOne (drop at (now (log .entry)))) ⌝ }
 {
     if at >= log.len() {
-        return Taken::Stopped(NOTHING_LEFT);
+        return Front::Stop(NOTHING_LEFT);
     }
     let kind = log[at];
     if kind == NO_KIND {
-        return Taken::Stopped(KIND_UNKNOWN);
+        return Front::Stop(KIND_UNKNOWN);
     }
     if kind > KIND_MESSAGE {
-        return Taken::Stopped(KIND_UNKNOWN);
+        return Front::Stop(KIND_UNKNOWN);
     }
     let length = length_of(kind);
     if log.len() - at < length {
-        return Taken::Stopped(RECORD_SHORT);
+        return Front::Stop(RECORD_SHORT);
     }
     let end = at + length;
-    Taken::Whole {
+    Front::Next {
         length,
         reading: fields_of(kind, &log[at..end]),
+    }
+}
+
+// The same, as taking answers it.
+pub fn take_one(log: &[u8], at: usize) -> Taken
+    ensures { λ r. ⌜ r ≡ takeOne (drop at (now (log .entry))) ⌝ }
+{
+    match front_at(log, at) {
+        Front::Next { length, reading } => Taken::Whole { length, reading },
+        Front::Stop(stop) => Taken::Stopped(stop),
     }
 }
 

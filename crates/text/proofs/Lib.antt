@@ -1,7 +1,6 @@
 pub mod Numbers
 pub mod Decimals
 pub mod Fields
-pub mod Pushing
 pub mod Room
 pub mod Sheets
 pub mod Lines

@@ -1,69 +1,57 @@
--- Decimal digits, made from the last one to the first.
--- Proves: digit-last, digit-more, rest-less, digits-few.
-use mathlib.Core.Path.{_≡_, sym, ap, _∙_}
+-- Decimal digits: how many a number has, and the last one apart from the others.
+-- Proves: decimal-one, decimal-more, decimal-long, digits-few.
+use mathlib.Core.Path.{_≡_, refl, sym, ap, _∙_}
 use mathlib.Core.Bool.{Bool, true, false, cond}
-use mathlib.Core.List.{List, [], _∷_, _++_, append-assoc}
-use Prim.Native.Nat.{ℕ, zero, suc, _+_, _*_, _-_, _/_, _%_, _^_, _≤_, _<_}
+use mathlib.Core.List.{List, [], _∷_, _++_}
+use Prim.Native.Nat.{ℕ, zero, suc, _+_, _*_, _/_, _%_, _^_, _≤_, _<_}
 use native.Mathlib.Nat.{pow-suc}
 use native.Mathlib.Omega.{arith}
 use lib.Dec.{ltb}
-use lib.ListN.{length, drop, set, length-set, length-append}
-use lib.Seq.{drop-cons, getD-set-same, drop-set-lt}
+use lib.ListN.{length, length-append}
 use borrow.Author.Tests.{lt-ltb, le-ltb}
 use Rattle.wire.proofs.Tests.{cond-holds}
 use Rattle.text.specs.Texts.{digitZero, digits, decimal}
 
--- a digit stored in front of those that stand already
-stored : (bytes : List ℕ) (j d : ℕ) → j < length bytes → drop j (set bytes j d) ≡ d ∷ drop (suc j) bytes
-stored bytes j d below =
-    drop-cons (set bytes j d) j 0 (simp length-set below)
-    ∙ ap (λ x. x ∷ drop (suc j) (set bytes j d)) (getD-set-same bytes j d 0 below)
-    ∙ ap (_∷_ d) (drop-set-lt (suc j) bytes j d (omega arith))
+cond-other : (b : Bool) (x y z : List ℕ) → (b ≡ false → y ≡ z) → cond b x y ≡ cond b x z
+cond-other true x y z same = refl
+cond-other false x y z same = same refl
 
-module _ (n rest i : ℕ) (bytes : List ℕ)
-    (so-far : decimal n ≡ digits i rest ++ drop i bytes) (some : 1 ≤ i) (below : i ≤ length bytes) where
-  j : ℕ
-  j = i - 1
-
-  is-suc : i ≡ suc j
-  unfolding j
-  is-suc = omega arith
-
-  -- the number, by whether one digit is left
-  by-digit : (b : Bool)
-      → ltb rest 10 ≡ b
-      → decimal n ≡ cond b ((digitZero + rest) ∷ []) (digits j (rest / 10) ++ ((digitZero + rest % 10) ∷ [])) ++ drop (suc j) bytes
-  unfolding digits
-  by-digit b test =
-      let one = (digitZero + rest) ∷ [] in
-      let more = digits j (rest / 10) ++ ((digitZero + rest % 10) ∷ []) in
-      so-far ∙ ap (λ k. digits k rest ++ drop k bytes) is-suc ∙ ap (λ x. cond x one more ++ drop (suc j) bytes) test
-
-  -- the first digit
-  pub digit-last : rest < 10 → drop (i - 1) (set bytes (i - 1) (digitZero + rest % 10)) ≡ decimal n
-  unfolding j digits
-  digit-last small =
-      let same : digitZero + rest % 10 ≡ digitZero + rest = omega arith in
-      stored bytes j (digitZero + rest % 10) (omega arith)
-      ∙ ap (λ d. d ∷ drop (suc j) bytes) same
-      ∙ sym (by-digit true (lt-ltb rest 10 small))
-
-  -- one of the others
-  pub digit-more : 10 ≤ rest → decimal n ≡ digits (i - 1) (rest / 10) ++ drop (i - 1) (set bytes (i - 1) (digitZero + rest % 10))
-  unfolding j digits
-  digit-more large =
-      by-digit false (le-ltb rest 10 large)
-      ∙ append-assoc (digits j (rest / 10)) ((digitZero + rest % 10) ∷ []) (drop (suc j) bytes)
-      ∙ ap (_++_ (digits j (rest / 10))) (sym (stored bytes j (digitZero + rest % 10) (omega arith)))
-
--- what is left has one digit less
-pub rest-less : (rest i : ℕ) → rest < 10 ^ i → 10 ≤ rest → (1 ≤ i - 1) × (rest / 10 < 10 ^ (i - 1))
-rest-less rest zero h large = absurd (omega arith)
-rest-less rest (suc zero) h large = absurd (omega arith)
-rest-less rest (suc (suc k)) h large =
+-- one digit more than a number has may be asked
+digits-enough : (k n : ℕ) → n < 10 ^ suc k → digits (suc (suc k)) n ≡ digits (suc k) n
+unfolding digits
+digits-enough zero n small = simp (lt-ltb n 10 small)
+digits-enough (suc k) n small =
     let power : 10 ^ suc (suc k) ≡ 10 ^ suc k * 10 = pow-suc 10 (suc k) in
-    let same : suc (suc k) - 1 ≡ suc k = omega arith in
-    (omega arith, rw same (omega arith))
+    let rest = digits-enough k (n / 10) (omega arith) in
+    cond-other (ltb n 10) ((digitZero + n) ∷ []) (digits (suc (suc k)) (n / 10) ++ ((digitZero + n % 10) ∷ []))
+    (digits (suc k) (n / 10) ++ ((digitZero + n % 10) ∷ []))
+    (λ more. ap (λ l. l ++ ((digitZero + n % 10) ∷ [])) rest)
+
+pub decimal-one : (n : ℕ) → n < 10 → decimal n ≡ (digitZero + n) ∷ []
+unfolding digits
+decimal-one n small = simp (lt-ltb n 10 small)
+
+pub decimal-more : (n : ℕ) → 10 ≤ n → n < 10_000_000_000 → decimal n ≡ decimal (n / 10) ++ ((digitZero + n % 10) ∷ [])
+unfolding digits
+decimal-more n large small =
+    let all : digits 10 (n / 10) ≡ digits 9 (n / 10) = digits-enough 8 (n / 10) (omega arith) in
+    ap (λ b. cond b ((digitZero + n) ∷ []) (digits 9 (n / 10) ++ ((digitZero + n % 10) ∷ []))) (le-ltb n 10 large)
+    ∙ ap (λ l. l ++ ((digitZero + n % 10) ∷ [])) (sym all)
+
+-- from a power of ten to the next
+pub decimal-long : (k n : ℕ)
+    → 10 ^ suc k ≤ n
+    → n < 10 ^ suc (suc k)
+    → n < 10_000_000_000
+    → length (decimal n) ≡ suc (suc k)
+decimal-long zero n least most small =
+    let rest = ap length (decimal-one (n / 10) (omega arith)) in
+    ap length (decimal-more n least small) ∙ length-append (decimal (n / 10)) _ ∙ omega arith
+decimal-long (suc k) n least most small =
+    let power : 10 ^ suc (suc k) ≡ 10 ^ suc k * 10 = pow-suc 10 (suc k) in
+    let next : 10 ^ suc (suc (suc k)) ≡ 10 ^ suc (suc k) * 10 = pow-suc 10 (suc (suc k)) in
+    let rest = decimal-long k (n / 10) (omega arith) (omega arith) (omega arith) in
+    ap length (decimal-more n (omega arith) small) ∙ length-append (decimal (n / 10)) _ ∙ omega arith
 
 -- a number has at most as many digits as asked
 pub digits-few : (k n : ℕ) → length (digits k n) ≤ k

@@ -1,5 +1,5 @@
 -- A sheet while it is written: the line of one more record, and what is still to come.
--- Proves: next-room, next-put, next-page, whole-part, to-come-stop, to-come-next.
+-- Proves: next-line, next-page, whole-part, to-come-stop, to-come-next.
 use mathlib.Core.Path.{_≡_, refl, sym, ap, ap₂, _∙_}
 use mathlib.Core.Logic.{_⊎_, inl, inr}
 use mathlib.Core.List.{List, [], _∷_, _++_}
@@ -7,7 +7,6 @@ use Prim.Native.Nat.{ℕ, zero, suc, _+_, _-_, _≤_, _<_}
 use native.Mathlib.Omega.{arith}
 use lib.ListN.{length, take, drop, length-drop}
 use lib.Seq.{drop-drop, length-take-le}
-use borrow.Rule.Slice.PartMut.{putMid}
 use Rattle.wire.specs.Bytes.{byte}
 use Rattle.unit.specs.Forms.{packed}
 use Rattle.unit.specs.OnRecords.{actionRoom, applied, onRecord}
@@ -21,63 +20,33 @@ use Rattle.unit.proofs.Few.{onRecord-few}
 use Rattle.unit.proofs.Written.{listed-take}
 use Rattle.record.proofs.Takes.{taken-short}
 use Rattle.unit.proofs.Runs.Going.{whole-ok}
-use Rattle.text.specs.Texts.{lineText, endText, placed}
-use Rattle.text.specs.Making.{textRoom, placedCount}
+use Rattle.text.specs.Texts.{lineText, endText}
 use Rattle.text.specs.Sheets.{mostInput, sheetBudget, courseText}
-use Rattle.text.specs.Pages.{putAt, outcomeOf, nextLine, nextPage, toCome}
+use Rattle.text.specs.Pages.{outcomeOf, nextLine, nextPage, toCome}
 use Rattle.text.specs.declared.sheet.Page.{Page}
-use Rattle.text.proofs.Room.{line-room}
-use Rattle.text.proofs.Putting.{put-part}
-
--- the line of a record has room
-pub next-room : (p : Page) (bytes : List ℕ) → length (nextLine p bytes) ≤ textRoom
-unfolding nextLine
-next-room p bytes =
-    let o = outcomeOf p bytes in
-    line-room (p .number + 1) (byte bytes 0) (o .code) (o .actions) (onRecord-few (p .state) bytes actionRoom)
 
 -- the line that the answer to a record gives, and the sheet with it
-module _ (p : Page) (bytes : List ℕ) (answer : Answer) (made : answer ≡ packed (applied (p .state) bytes)) where
+module _ (p : Page) (bytes : List ℕ) (answer : Answer) (made : answer ≡ packed (applied (p .state) bytes))
+    (kind : ℕ) (first : kind ≡ byte bytes 0) where
   is-given : answer ≡ packed (outcomeOf p bytes)
   unfolding onRecord
   is-given = made
 
-  next-line : (kind : ℕ)
-      → kind ≡ byte bytes 0
-      → lineText (p .number + 1) kind (answer .code) (take (answer .actions .count) (answer .actions .items)) ≡ nextLine p bytes
+  pub next-line :
+      lineText (p .number + 1) kind (answer .code) (take (answer .actions .count) (answer .actions .items)) ≡ nextLine p bytes
   unfolding nextLine packed
-  next-line kind first =
+  next-line =
       let o = outcomeOf p bytes in
       ap₂ (λ k (a : Answer). lineText (p .number + 1) k (a .code) (take (a .actions .count) (a .actions .items))) first is-given
       ∙ ap (lineText (p .number + 1) (byte bytes 0) (o .code))
       (listed-take (o .actions) (onRecord-few (p .state) bytes actionRoom))
 
-  -- put after the others
-  pub next-put : (kind : ℕ)
-      → kind ≡ byte bytes 0
-      → (buffer : List ℕ)
-      → p .used + textRoom ≤ length buffer
-      → (r : ℕ) (after : List ℕ)
-      → (r
-      ≡ placedCount (lineText (p .number + 1) kind (answer .code) (take (answer .actions .count) (answer .actions .items)))
-      (length (take (length buffer - p .used) (drop (p .used) buffer))))
-      × (after
-      ≡ placed (lineText (p .number + 1) kind (answer .code) (take (answer .actions .count) (answer .actions .items)))
-      (take (length buffer - p .used) (drop (p .used) buffer)))
-      → (r ≡ length (nextLine p bytes))
-      × (putMid (p .used) (length buffer - p .used) buffer after ≡ putAt (nextLine p bytes) (p .used) buffer)
-  next-put kind first buffer room r after placing =
-      let line = next-line kind first in
-      let part = take (length buffer - p .used) (drop (p .used) buffer) in
-      put-part (nextLine p bytes) buffer (p .used) (omega (arith, room, next-room p bytes)) r after
-      (placing .0 ∙ ap (λ l. placedCount l (length part)) line, placing .1 ∙ ap (λ l. placed l part) line)
-
-  pub next-page : (r : ℕ)
-      → r ≡ length (nextLine p bytes)
-      → record { state = answer .state; at = p .at + length bytes; number = p .number + 1; used = p .used + r } ≡ nextPage p bytes
+  pub next-page : (used : ℕ)
+      → used ≡ p .used + length (nextLine p bytes)
+      → record { state = answer .state; at = p .at + length bytes; number = p .number + 1; used = used } ≡ nextPage p bytes
   unfolding nextPage packed
-  next-page r size = λ i.
-      record { state = is-given i .state; at = p .at + length bytes; number = p .number + 1; used = p .used + size i }
+  next-page used size = λ i.
+      record { state = is-given i .state; at = p .at + length bytes; number = p .number + 1; used = size i }
 
 -- a budget of at least as many records as there are bytes is not used up
 course-stop : (budget : ℕ) (s : State) (rest : List ℕ) (stop : ℕ)

@@ -1,30 +1,24 @@
 -- The whole sheet in the buffer, by what the input and the buffer are.
 -- Proves: sheet-none, sheet-long, header-ready, sheet-whole.
-use mathlib.Core.Path.{_≡_, sym, ap, ap₂, _∙_}
+use mathlib.Core.Path.{_≡_, sym, ap, _∙_}
 use mathlib.Core.List.{List, _++_}
 use Prim.Native.Nat.{ℕ, _+_, _≤_, _<_}
 use native.Mathlib.Nat.{zero-add}
 use native.Mathlib.Omega.{arith}
-use lib.ListN.{length, length-append}
+use lib.ListN.{length}
 use borrow.Author.Tests.{le-leb, lt-leb}
 use Rattle.unit.specs.States.{coldStart}
 use Rattle.unit.specs.declared.state.State.{State}
 use Rattle.text.specs.Texts.{placed}
-use Rattle.text.specs.Making.{placedCount}
 use Rattle.text.specs.Sheets.{headerText, tooLongText, mostInput, sheetLimits, sheetText, sheetRoom, sheetCount, sheetPlaced}
-use Rattle.text.specs.Pages.{putAt, toCome}
+use Rattle.text.specs.Pages.{toCome}
 use Rattle.text.specs.declared.sheet.Page.{Page}
 use Rattle.text.proofs.Sheets.{sheet-fits}
-use Rattle.text.proofs.Putting.{put-length, put-more, put-front}
+use Rattle.text.proofs.Putting.{Put, Putting, put-front, putting-start, putting-next, putting-last}
 
 -- a sheet before its first line
 abbrev first : State → ℕ → Page
 first s used = record { state = s; at = 0; number = 0; used = used }
-
--- a text that has room is placed whole
-whole-count : (text : List ℕ) (room : ℕ) → length text ≤ room → placedCount text room ≡ length text
-unfolding placedCount
-whole-count text room fits = simp (le-leb (length text) room fits)
 
 module _ (input buffer : List ℕ) where
   -- not every sheet has room
@@ -33,58 +27,52 @@ module _ (input buffer : List ℕ) where
   sheet-none small = (simp (lt-leb sheetRoom (length buffer) small), simp (lt-leb sheetRoom (length buffer) small))
 
   module _ (room : sheetRoom ≤ length buffer) where
-    -- the sheet is placed
+    fits : length (sheetText input) ≤ length buffer
+    fits = omega (arith, room, sheet-fits input)
+
+    -- the sheet is put to the front
     is-placed : (text : List ℕ) (r : ℕ) (after : List ℕ)
         → sheetText input ≡ text
-        → (r ≡ length text) × (after ≡ placed text buffer)
+        → Put text 0 buffer r after
         → (r ≡ sheetCount input (length buffer)) × (after ≡ sheetPlaced input buffer)
     unfolding sheetCount sheetPlaced
-    is-placed text r after same placing = (
-      placing .0 ∙ ap length (sym same) ∙ simp (le-leb sheetRoom (length buffer) room),
-      placing .1 ∙ ap (λ l. placed l buffer) (sym same) ∙ simp (le-leb sheetRoom (length buffer) room),
-    )
+    is-placed text r after same put =
+        let enough = le-leb sheetRoom (length buffer) room in
+        let inside : length text ≤ length buffer = omega (arith, fits, ap length same) in (
+          put .0 ∙ zero-add (length text) ∙ ap length (sym same) ∙ simp enough,
+          put .1 ∙ sym (put-front text buffer inside) ∙ ap (λ l. placed l buffer) (sym same) ∙ simp enough,
+        )
 
     -- "more prints only `too long`"
     pub sheet-long : mostInput < length input
         → (r : ℕ) (after : List ℕ)
-        → (r ≡ placedCount tooLongText (length buffer)) × (after ≡ placed tooLongText buffer)
+        → Put tooLongText 0 buffer r after
         → (r ≡ sheetCount input (length buffer)) × (after ≡ sheetPlaced input buffer)
     unfolding sheetText
-    sheet-long long r after placing =
-        is-placed tooLongText r after (simp (lt-leb (length input) mostInput long))
-        (placing .0 ∙ whole-count tooLongText (length buffer) (omega arith), placing .1)
+    sheet-long long r after put = is-placed tooLongText r after (simp (lt-leb (length input) mostInput long)) put
 
-    -- the header stands first
-    module _ (short : length input ≤ mostInput) (used : ℕ) (begun : List ℕ)
-        (header : (used ≡ placedCount headerText (length buffer)) × (begun ≡ placed headerText buffer)) where
-      used-is : used ≡ length headerText
-      used-is = header .0 ∙ whole-count headerText (length buffer) (omega arith)
+    -- the header stands first, and then the lines
+    module _ (short : length input ≤ mostInput) (used : ℕ) (begun : List ℕ) (header : Put headerText 0 buffer used begun)
+        (s : State) (cold : s ≡ coldStart sheetLimits .state) where
+      rest : List ℕ
+      rest = toCome (first s used) input
 
-      begun-is : begun ≡ putAt headerText 0 buffer
-      begun-is = header .1 ∙ put-front headerText buffer (omega arith)
+      text-is : sheetText input ≡ headerText ++ rest
+      unfolding sheetText toCome rest
+      text-is = simp (le-leb (length input) mostInput short, cold)
 
-      pub header-ready : (used ≤ length headerText) × (sheetRoom ≤ length begun)
-      header-ready =
-          let kept = ap length begun-is ∙ put-length headerText buffer 0 (omega arith) in
-          (omega (arith, used-is), omega (arith, kept))
+      rest-left : Putting (headerText ++ rest) 0 buffer rest used begun
+      rest-left =
+          let inside : 0 + length (headerText ++ rest) ≤ length buffer = omega (arith, fits, ap length text-is) in
+          putting-next _ _ _ headerText rest _ _ (putting-start (headerText ++ rest) 0 buffer inside) _ _ header
 
-      -- and then the lines
-      module _ (s : State) (cold : s ≡ coldStart sheetLimits .state) where
-        text-is : sheetText input ≡ headerText ++ toCome (first s used) input
-        unfolding sheetText toCome
-        text-is = simp (le-leb (length input) mostInput short, cold)
+      pub header-ready : used + length (toCome (first s used) input) ≤ length begun
+      unfolding rest
+      header-ready = rest-left .0
 
-        pub sheet-whole : (r : ℕ) (after : List ℕ)
-            → (r ≡ used + length (toCome (first s used) input))
-            × (after ≡ putAt (toCome (first s used) input) used begun)
-            → (r ≡ sheetCount input (length buffer)) × (after ≡ sheetPlaced input buffer)
-        sheet-whole r after placing =
-            let rest = toCome (first s used) input in
-            let fits : length (headerText ++ rest) ≤ length buffer = omega (arith, sheet-fits input, ap length text-is) in
-            let sum : used + length rest ≡ length (headerText ++ rest) = simp length-append (omega (arith, used-is)) in
-            is-placed (headerText ++ rest) r after text-is (
-              placing .0 ∙ sum,
-              placing .1
-                  ∙ ap₂ (putAt rest) (used-is ∙ sym (zero-add (length headerText))) begun-is
-                  ∙ sym (put-front (headerText ++ rest) buffer fits ∙ put-more headerText buffer 0 (omega arith) rest),
-            )
+      pub sheet-whole : (r : ℕ) (after : List ℕ)
+          → Put (toCome (first s used) input) used begun r after
+          → (r ≡ sheetCount input (length buffer)) × (after ≡ sheetPlaced input buffer)
+      unfolding rest
+      sheet-whole r after put =
+          is-placed (headerText ++ rest) r after text-is (putting-last _ _ _ rest _ _ rest-left r after put)

@@ -1,56 +1,19 @@
--- A text put at a place of a buffer: what stands before and after it stays.
--- Proves: put-part, put-length, put-more, put-front.
-use mathlib.Core.Path.{_≡_, sym, ap, ap₂, _∙_}
-use mathlib.Core.List.{List, [], _++_, append-nil, append-assoc}
-use Prim.Native.Nat.{ℕ, _+_, _-_, _≤_}
-use native.Mathlib.Nat.{zero-add}
+-- A text put at a place of a buffer: what stands before and after it stays; and what is left to put while a text is put part by part.
+-- Defines: Put, Putting.
+-- Proves: put-length, put-more, put-front, put-none, put-last, put-byte, putting-start, putting-room, putting-next, putting-last,
+-- putting-none.
+use mathlib.Core.Path.{_≡_, refl, sym, ap, ap₂, _∙_}
+use mathlib.Core.List.{List, [], _∷_, _++_, append-assoc}
+use Prim.Native.Nat.{ℕ, suc, _+_, _≤_, _<_}
+use native.Mathlib.Nat.{zero-add, add-zero}
 use native.Mathlib.Omega.{arith}
-use lib.ListN.{length, take, drop, length-append, length-drop, drop-of-length-le}
-use lib.Seq.{take-all, take-at, drop-at, drop-drop, length-take-le}
+use lib.ListN.{length, take, drop, set, length-append, length-drop, length-set, take-append-drop}
+use lib.Seq.{take-at, drop-at, drop-drop, drop-cons, length-take-le, take-set-le, drop-set-lt, getD-set-same}
 use borrow.Author.Tests.{le-leb}
-use borrow.Rule.Slice.PartMut.{putMid}
 use Rattle.text.specs.Texts.{placed}
-use Rattle.text.specs.Making.{placedCount}
-use Rattle.text.specs.Pages.{putAt}
+use Rattle.text.specs.Making.{putAt}
 
--- a text put to the front of the part from a place on is put at that place
 module _ (text buffer : List ℕ) (at : ℕ) (room : at + length text ≤ length buffer) where
-  left : ℕ
-  left = length buffer - at
-
-  part-whole : take left (drop at buffer) ≡ drop at buffer
-  unfolding left
-  part-whole = take-all (length buffer - at) (drop at buffer) (simp length-drop (omega arith))
-
-  fits : length text ≤ length (drop at buffer)
-  fits = omega (arith, length-drop at buffer)
-
-  rest-none : drop left (drop at buffer) ≡ []
-  unfolding left
-  rest-none = drop-of-length-le (drop at buffer) {i = length buffer - at} (simp length-drop (omega arith))
-
-  put-rest : placed text (take left (drop at buffer)) ≡ text ++ drop (at + length text) buffer
-  unfolding placed
-  put-rest =
-      let there : placed text (drop at buffer) ≡ text ++ drop (length text) (drop at buffer) = simp (le-leb _ _ fits) in
-      ap (placed text) part-whole ∙ there ∙ ap (_++_ text) (drop-drop (length text) at buffer)
-
-  put-count : placedCount text (length (take left (drop at buffer))) ≡ length text
-  unfolding placedCount
-  put-count =
-      ap (λ l. placedCount text (length l)) part-whole ∙ simp (le-leb (length text) (length (drop at buffer)) fits)
-
-  pub put-part : (r : ℕ) (after : List ℕ)
-      → (r ≡ placedCount text (length (take (length buffer - at) (drop at buffer))))
-      × (after ≡ placed text (take (length buffer - at) (drop at buffer)))
-      → (r ≡ length text) × (putMid at (length buffer - at) buffer after ≡ putAt text at buffer)
-  unfolding left putAt
-  put-part r after placing = (
-    placing .0 ∙ put-count,
-    ap₂ (λ l end. take at buffer ++ (l ++ end)) (placing .1 ∙ put-rest) rest-none
-        ∙ ap (_++_ (take at buffer)) (append-nil (text ++ drop (at + length text) buffer)),
-  )
-
   front : List ℕ
   front = take at buffer ++ text
 
@@ -95,3 +58,83 @@ module _ (text buffer : List ℕ) (at : ℕ) (room : at + length text ≤ length
 pub put-front : (text buffer : List ℕ) → length text ≤ length buffer → placed text buffer ≡ putAt text 0 buffer
 unfolding placed putAt
 put-front text buffer fits = simp (le-leb (length text) (length buffer) fits, zero-add)
+
+-- no text
+pub put-none : (at : ℕ) (buffer : List ℕ) → putAt [] at buffer ≡ buffer
+unfolding putAt
+put-none at buffer = ap (λ n. take at buffer ++ drop n buffer) (add-zero at) ∙ take-append-drop at buffer
+
+-- a text whose last character stands in the buffer already
+pub put-last : (text buffer : List ℕ) (at b : ℕ)
+    → at + length text < length buffer
+    → putAt text at (set buffer (at + length text) b) ≡ putAt (text ++ (b ∷ [])) at buffer
+unfolding putAt
+put-last text buffer at b below =
+    let end = at + length text in
+    let stored =
+    drop-cons (set buffer end b) end 0 (simp length-set below)
+    ∙ ap₂ _∷_ (getD-set-same buffer end b 0 below) (drop-set-lt (suc end) buffer end b (omega arith)) in
+    let sum : suc end ≡ at + length (text ++ (b ∷ [])) = simp length-append (omega arith) in
+    ap₂ (λ l m. l ++ (text ++ m)) (take-set-le at buffer end b (omega arith)) stored
+    ∙ ap (_++_ (take at buffer)) (sym (append-assoc text (b ∷ []) (drop (suc end) buffer)))
+    ∙ ap (λ n. take at buffer ++ ((text ++ (b ∷ [])) ++ drop n buffer)) sum
+
+-- one character
+pub put-byte : (buffer : List ℕ) (at b : ℕ) → at < length buffer → set buffer at b ≡ putAt (b ∷ []) at buffer
+put-byte buffer at b below =
+    let here : at ≡ at + 0 = omega arith in
+    ap (λ n. set buffer n b) here ∙ sym (put-none at (set buffer (at + 0) b)) ∙ put-last [] buffer at b (omega arith)
+
+-- the place after a text, and the buffer with it
+abbrev pub Put : List ℕ → ℕ → List ℕ → ℕ → List ℕ → Type 0
+Put text at buffer next after = (next ≡ at + length text) × (after ≡ putAt text at buffer)
+
+-- what is left of a text while it is put: it has room, ends where the whole ends, and makes the same buffer
+abbrev pub Putting : List ℕ → ℕ → List ℕ → List ℕ → ℕ → List ℕ → Type 0
+Putting whole start buffer₀ text at buffer =
+    (at + length text ≤ length buffer)
+    × (length buffer ≡ length buffer₀)
+    × (start + length whole ≡ at + length text)
+    × (putAt whole start buffer₀ ≡ putAt text at buffer)
+
+pub putting-start : (text : List ℕ) (at : ℕ) (buffer : List ℕ)
+    → at + length text ≤ length buffer
+    → Putting text at buffer text at buffer
+putting-start text at buffer room = (room, refl, refl, refl)
+
+module _ (whole : List ℕ) (start : ℕ) (buffer₀ : List ℕ) where
+  -- the first part has room
+  pub putting-room : (text more : List ℕ) (at : ℕ) (buffer : List ℕ)
+      → Putting whole start buffer₀ (text ++ more) at buffer
+      → at + length text ≤ length buffer
+  putting-room text more at buffer left = omega (arith, left .0, length-append text more)
+
+  -- where it is put, the second is left
+  pub putting-next : (text more : List ℕ) (at : ℕ) (buffer : List ℕ)
+      → Putting whole start buffer₀ (text ++ more) at buffer
+      → (next : ℕ) (after : List ℕ)
+      → Put text at buffer next after
+      → Putting whole start buffer₀ more next after
+  putting-next text more at buffer left next after put =
+      let room = putting-room text more at buffer left in
+      let size = length-append text more in
+      let kept : length after ≡ length buffer = ap length (put .1) ∙ put-length text buffer at room in (
+        omega (arith, left .0, size, kept, put .0),
+        kept ∙ left .1,
+        omega (arith, left .2, size, put .0),
+        left .3 ∙ put-more text buffer at room more ∙ ap₂ (putAt more) (sym (put .0)) (sym (put .1)),
+      )
+
+  -- where all that is left is put, the whole is
+  pub putting-last : (text : List ℕ) (at : ℕ) (buffer : List ℕ)
+      → Putting whole start buffer₀ text at buffer
+      → (next : ℕ) (after : List ℕ)
+      → Put text at buffer next after
+      → Put whole start buffer₀ next after
+  putting-last text at buffer left next after put = (put .0 ∙ sym (left .2), put .1 ∙ sym (left .3))
+
+  -- and where nothing is left
+  pub putting-none : (at : ℕ) (buffer : List ℕ)
+      → Putting whole start buffer₀ [] at buffer
+      → Put whole start buffer₀ at buffer
+  putting-none at buffer left = (omega (arith, left .2), sym (left .3 ∙ put-none at buffer))

@@ -1,4 +1,5 @@
 -- Every line of a sheet has room.
+-- Defines: textRoom.
 -- Proves: line-room, end-room.
 use mathlib.Core.List.{List, [], _∷_}
 use Prim.Native.Nat.{ℕ, _*_, _≤_}
@@ -7,8 +8,11 @@ use lib.ListN.{length, length-append}
 use Rattle.wire.specs.Blocks.{blocks}
 use Rattle.unit.specs.declared.answer.Action.{Action}
 use Rattle.text.specs.Texts.{mostDigits, decimal, partnerNumber, actionText, lineText, endText}
-use Rattle.text.specs.Making.{textRoom}
 use Rattle.text.proofs.Numbers.{digits-few}
+
+-- for each line so much of the room of every sheet
+abbrev pub textRoom : ℕ
+textRoom = 192
 
 few : (n : ℕ) → length (decimal n) ≤ mostDigits
 few n = digits-few mostDigits n

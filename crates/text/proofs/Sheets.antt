@@ -25,11 +25,10 @@ use Rattle.record.specs.declared.take.Taken.{Taken}
 use Rattle.record.specs.declared.take.Taken.the-variants.{Whole, Stopped, Refused}
 use Rattle.unit.proofs.Few.{onRecord-few}
 use Rattle.text.specs.Texts.{digits, decimal, actionText, lineText, endText, placed}
-use Rattle.text.specs.Making.{textRoom}
 use Rattle.text.specs.Sheets.{headerText, tooLongText, mostInput, sheetLimits, sheetBudget, courseText, sheetText}
 use Rattle.text.specs.Sheets.{sheetRoom, sheetCount, sheetPlaced}
 use Rattle.text.specs.SheetExample.{exampleInput, exampleText, refusalsInput, refusalsText, to}
-use Rattle.text.proofs.Room.{line-room, end-room}
+use Rattle.text.proofs.Room.{textRoom, line-room, end-room}
 
 -- the lines of a course, and its last one
 pub course-fits : (budget : ℕ) (s : State) (log : List ℕ) (read : ℕ)

@@ -1,11 +1,12 @@
-// The text of a sheet: numbers in decimal, the line of a record, the last line.
+// The text of a sheet, put into a lent buffer: numbers in decimal, the line of a record, the last line.
+// Each function `put_..` puts its text at a place of the buffer, where it has room, and answers the place after it; other bytes stay.
 ghost use mathlib.Core.Path.{_≡_};
-ghost use Prim.Native.Nat.{_≤_, _<_};
+ghost use Prim.Native.Nat.{_+_, _≤_};
 ghost use mathlib.Core.List.{[], _∷_};
-ghost use lib.ListN.{length, take, drop};
+ghost use lib.ListN.{length, take};
 ghost use Rattle.wire.specs.Blocks.{blocks};
-ghost use Rattle.text.specs.Texts.{decimal, partnerNumber, actionText, lineText, endText, placed};
-ghost use Rattle.text.specs.Making.{textRoom, texted, withByte, withBytes, placedCount};
+ghost use Rattle.text.specs.Texts.{decimal, partnerNumber, actionText, lineText, endText};
+ghost use Rattle.text.specs.Making.{putAt};
 use record::partner::Partner;
 use unit::answer::Action;
 use unit::answer::Actions;
@@ -13,22 +14,6 @@ use unit::answer::MOST_ACTIONS;
 use wire::byte::word;
 
 pub mod sheet;
-
-// A text that is being made; the bytes from `used` on are zeros.
-pub struct Text {
-    pub bytes: [u8; 192],
-    pub used: usize,
-}
-
-// A number's digits: those of `bytes` from `start` on.
-struct Digits {
-    bytes: [u8; 10],
-    start: usize,
-}
-
-const TEXT_ROOM: usize = 192;
-
-const MOST_DIGITS: usize = 10;
 
 const NEWLINE: u8 = 10;
 
@@ -49,180 +34,179 @@ fn partner_number(p: Partner) -> u32
     word(high) * 65536 + word(middle) * 256 + word(low)
 }
 
-// A number's decimal digits, from the last one to the first.
-fn digits_of(n: u32) -> Digits
-    ensures { λ r. ⌜ (drop (r .start) (r .bytes) ≡ decimal n) × (length (r .bytes) ≡ 10) × (r .start ≤ 10) ⌝ }
+// One character.
+fn put_byte(buffer: &mut [u8], at: usize, b: u8) -> usize
+    requires { ⌜ at + 1 ≤ length (now buffer) ⌝ }
+    ensures { λ r. ⌜ (r ≡ at + 1) × (now (buffer .exit) ≡ putAt (b ∷ []) at (now (buffer .entry))) ⌝ }
 {
-    let mut bytes = [0u8; 10];
-    let mut i = MOST_DIGITS;
+    buffer[at] = b;
+    at + 1
+}
+
+// These characters, one after the other.
+pub(crate) fn put_words(buffer: &mut [u8], at: usize, words: &[u8]) -> usize
+    requires { ⌜ at + length (now words) ≤ length (now buffer) ⌝ }
+    ensures { λ r.
+        ⌜ (r ≡ at + length (now (words .entry)))
+        × (now (buffer .exit)
+        ≡ putAt (now (words .entry)) at (now (buffer .entry))) ⌝ }
+{
+    let mut next = at;
+    let mut i = 0;
+    while i < words.len() {
+        next = put_byte(buffer, next, words[i]);
+        i += 1;
+    }
+    next
+}
+
+// How many digits a number has.
+fn digit_count(n: u32) -> usize
+    ensures { λ r. ⌜ r ≡ length (decimal n) ⌝ }
+{
+    if n < 10 {
+        return 1;
+    }
+    if n < 100 {
+        return 2;
+    }
+    if n < 1_000 {
+        return 3;
+    }
+    if n < 10_000 {
+        return 4;
+    }
+    if n < 100_000 {
+        return 5;
+    }
+    if n < 1_000_000 {
+        return 6;
+    }
+    if n < 10_000_000 {
+        return 7;
+    }
+    if n < 100_000_000 {
+        return 8;
+    }
+    if n < 1_000_000_000 {
+        return 9;
+    }
+    10
+}
+
+// A number in decimal, from its last digit to its first.
+fn put_number(buffer: &mut [u8], at: usize, n: u32) -> usize
+    requires { ⌜ at + length (decimal n) ≤ length (now buffer) ⌝ }
+    ensures { λ r.
+        ⌜ (r ≡ at + length (decimal n))
+        × (now (buffer .exit)
+        ≡ putAt (decimal n) at (now (buffer .entry))) ⌝ }
+{
+    let end = at + digit_count(n);
+    let mut i = end;
     let mut rest = n;
-    loop {
+    while rest >= 10 {
         i -= 1;
-        bytes[i] = DIGIT_ZERO + (rest % 10) as u8;
-        if rest < 10 {
-            break Digits { bytes, start: i };
-        }
+        buffer[i] = DIGIT_ZERO + (rest % 10) as u8;
         rest /= 10;
     }
+    buffer[at] = DIGIT_ZERO + rest as u8;
+    end
 }
 
-impl Text {
-    fn empty() -> Text
-        ensures { λ r. ⌜ r ≡ texted [] ⌝ }
-    {
-        Text {
-            bytes: [0; 192],
-            used: 0,
-        }
-    }
-
-    // One more character; none where there is no room.
-    fn push(self, b: u8) -> Text
-        ensures { λ r. ⌜ r ≡ withByte self b ⌝ }
-    {
-        let at = self.used;
-        if at < TEXT_ROOM {
-            let mut next = self;
-            next.bytes[at] = b;
-            next.used = at + 1;
-            next
-        } else {
-            self
-        }
-    }
-
-    // These characters, one after the other.
-    fn words(self, words: &[u8]) -> Text
-        ensures { λ r. ⌜ r ≡ withBytes self (now (words .entry)) ⌝ }
-    {
-        let mut text = self;
-        let mut i = 0;
-        while i < words.len() {
-            text = text.push(words[i]);
-            i += 1;
-        }
-        text
-    }
-
-    // A number in decimal.
-    fn number(self, n: u32) -> Text
-        ensures { λ r. ⌜ r ≡ withBytes self (decimal n) ⌝ }
-    {
-        let digits = digits_of(n);
-        let bytes = digits.bytes;
-        let start = digits.start;
-        self.words(&bytes[start..])
-    }
-
-    // A character and then a number.
-    fn field(self, before: u8, n: u32) -> Text
-        ensures { λ r. ⌜ r ≡ withBytes self (before ∷ decimal n) ⌝ }
-    {
-        self.push(before).number(n)
-    }
-
-    // An action as number:type/partner, after a space.
-    fn action(self, action: Action) -> Text
-        ensures { λ r. ⌜ r ≡ withBytes self (actionText action) ⌝ }
-    {
-        let partner = action.partner;
-        let sent = self.field(SPACE, word(action.number));
-        let typed = sent.field(COLON, word(partner.kind));
-        typed.field(SLASH, partner_number(partner))
-    }
-
-    // The actions of a record, one after the other.
-    fn actions(self, actions: Actions) -> Text
-        ensures { λ r. ⌜ r ≡ withBytes self (blocks actionText (take (actions .count) (actions .items))) ⌝ }
-    {
-        let count = actions.count;
-        let mut text = self;
-        let mut i = 0;
-        loop {
-            if i >= count {
-                break text;
-            }
-            if i >= MOST_ACTIONS {
-                break text;
-            }
-            let action = actions.items[i];
-            text = text.action(action);
-            i += 1;
-        }
-    }
-
-    // Puts the text to the front of a buffer that has room for it, and answers its length; else 0, and nothing is written.
-    fn place(self, buffer: &mut [u8]) -> usize
-        requires { ⌜ self .used ≤ 192 ⌝ }
-        ensures { λ r.
-            ⌜ (r ≡ placedCount (take (self .used) (self .bytes)) (length (now (buffer .entry))))
-            × (now (buffer .exit)
-            ≡ placed (take (self .used) (self .bytes)) (now (buffer .entry))) ⌝ }
-    {
-        let used = self.used;
-        if buffer.len() < used {
-            return 0;
-        }
-        let mut i = 0;
-        while i < used {
-            buffer[i] = self.bytes[i];
-            i += 1;
-        }
-        used
-    }
-}
-
-// Puts these characters to the front of a buffer that has room for them, and answers how many they are; else 0, and nothing is written.
-pub(crate) fn words_into(buffer: &mut [u8], words: &[u8]) -> usize
-    requires { ⌜ length (now words) ≤ textRoom ⌝ }
+// A character and then a number.
+fn put_long_field(buffer: &mut [u8], at: usize, before: u8, n: u32) -> usize
+    requires { ⌜ at + length (before ∷ decimal n) ≤ length (now buffer) ⌝ }
     ensures { λ r.
-        ⌜ (r ≡ placedCount (now (words .entry)) (length (now (buffer .entry))))
+        ⌜ (r ≡ at + length (before ∷ decimal n))
         × (now (buffer .exit)
-        ≡ placed (now (words .entry)) (now (buffer .entry))) ⌝ }
+        ≡ putAt (before ∷ decimal n) at (now (buffer .entry))) ⌝ }
 {
-    let text = Text::empty().words(words);
-    text.place(buffer)
+    let begun = put_byte(buffer, at, before);
+    put_number(buffer, begun, n)
 }
 
-fn line(number: u32, kind: u8, code: u8, actions: Actions) -> Text
-    ensures { λ r. ⌜ r ≡ withBytes (texted []) (lineText number kind code (take (actions .count) (actions .items))) ⌝ }
+// The same of a number of one byte.
+fn put_field(buffer: &mut [u8], at: usize, before: u8, n: u8) -> usize
+    requires { ⌜ at + length (before ∷ decimal n) ≤ length (now buffer) ⌝ }
+    ensures { λ r.
+        ⌜ (r ≡ at + length (before ∷ decimal n))
+        × (now (buffer .exit)
+        ≡ putAt (before ∷ decimal n) at (now (buffer .entry))) ⌝ }
 {
-    let numbered = Text::empty().number(number);
-    let told = numbered.field(SPACE, word(kind)).field(SPACE, word(code));
-    told.actions(actions).push(NEWLINE)
+    put_long_field(buffer, at, before, n as u32)
 }
 
-// Puts the line of a record to the front of a buffer and answers its length; 0 and nothing written where there is no room.
-pub(crate) fn line_into(
+// An action as number:type/partner, after a space.
+fn put_action(buffer: &mut [u8], at: usize, action: Action) -> usize
+    requires { ⌜ at + length (actionText action) ≤ length (now buffer) ⌝ }
+    ensures { λ r.
+        ⌜ (r ≡ at + length (actionText action))
+        × (now (buffer .exit)
+        ≡ putAt (actionText action) at (now (buffer .entry))) ⌝ }
+{
+    let partner = action.partner;
+    let numbered = put_field(buffer, at, SPACE, action.number);
+    let typed = put_field(buffer, numbered, COLON, partner.kind);
+    put_long_field(buffer, typed, SLASH, partner_number(partner))
+}
+
+// The actions of a record, one after the other.
+fn put_actions(buffer: &mut [u8], at: usize, actions: Actions) -> usize
+    requires { ⌜ at + length (blocks actionText (take (actions .count) (actions .items))) ≤ length (now buffer) ⌝ }
+    ensures { λ r.
+        ⌜ (r ≡ at + length (blocks actionText (take (actions .count) (actions .items))))
+        × (now (buffer .exit)
+        ≡ putAt (blocks actionText (take (actions .count) (actions .items))) at (now (buffer .entry))) ⌝ }
+{
+    let count = actions.count;
+    let mut next = at;
+    let mut i = 0;
+    loop {
+        if i >= count {
+            break next;
+        }
+        if i >= MOST_ACTIONS {
+            break next;
+        }
+        let action = actions.items[i];
+        next = put_action(buffer, next, action);
+        i += 1;
+    }
+}
+
+// The line of a record.
+pub(crate) fn put_line(
     buffer: &mut [u8],
+    at: usize,
     number: u32,
     kind: u8,
     code: u8,
     actions: Actions,
 ) -> usize
+    requires { ⌜ at + length (lineText number kind code (take (actions .count) (actions .items))) ≤ length (now buffer) ⌝ }
     ensures { λ r.
-        ⌜ (r ≡ placedCount (lineText number kind code (take (actions .count) (actions .items))) (length (now (buffer .entry))))
+        ⌜ (r ≡ at + length (lineText number kind code (take (actions .count) (actions .items))))
         × (now (buffer .exit)
-        ≡ placed (lineText number kind code (take (actions .count) (actions .items))) (now (buffer .entry))) ⌝ }
+        ≡ putAt (lineText number kind code (take (actions .count) (actions .items))) at (now (buffer .entry))) ⌝ }
 {
-    let text = line(number, kind, code, actions);
-    text.place(buffer)
+    let numbered = put_number(buffer, at, number);
+    let kinded = put_field(buffer, numbered, SPACE, kind);
+    let coded = put_field(buffer, kinded, SPACE, code);
+    let told = put_actions(buffer, coded, actions);
+    put_byte(buffer, told, NEWLINE)
 }
 
-fn end(stop: u8, read: u32) -> Text
-    ensures { λ r. ⌜ r ≡ withBytes (texted []) (endText stop read) ⌝ }
-{
-    let begun = Text::empty().push(b'e').push(b'n').push(b'd').push(SPACE);
-    begun.number(word(stop)).field(SPACE, read).push(NEWLINE)
-}
-
-// Puts the last line to the front of a buffer and answers its length; 0 and nothing written where there is no room.
-pub(crate) fn end_into(buffer: &mut [u8], stop: u8, read: u32) -> usize
+// The last line.
+pub(crate) fn put_end(buffer: &mut [u8], at: usize, stop: u8, read: u32) -> usize
+    requires { ⌜ at + length (endText stop read) ≤ length (now buffer) ⌝ }
     ensures { λ r.
-        ⌜ (r ≡ placedCount (endText stop read) (length (now (buffer .entry))))
+        ⌜ (r ≡ at + length (endText stop read))
         × (now (buffer .exit)
-        ≡ placed (endText stop read) (now (buffer .entry))) ⌝ }
+        ≡ putAt (endText stop read) at (now (buffer .entry))) ⌝ }
 {
-    let text = end(stop, read);
-    text.place(buffer)
+    let begun = put_words(buffer, at, b"end ");
+    let stopped = put_number(buffer, begun, stop as u32);
+    let told = put_long_field(buffer, stopped, SPACE, read);
+    put_byte(buffer, told, NEWLINE)
 }

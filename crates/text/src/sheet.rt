@@ -3,11 +3,12 @@ ghost use mathlib.Core.Path.{_≡_};
 ghost use Prim.Native.Nat.{_+_, _≤_};
 ghost use lib.ListN.{length};
 ghost use Rattle.text.specs.Texts.{endText};
-ghost use Rattle.text.specs.Sheets.{mostInput, sheetCount, sheetPlaced};
-ghost use Rattle.text.specs.Pages.{putAt, nextLine, nextPage, toCome, Ready, Follows};
-use crate::end_into;
-use crate::line_into;
-use crate::words_into;
+ghost use Rattle.text.specs.Sheets.{sheetCount, sheetPlaced};
+ghost use Rattle.text.specs.Making.{putAt};
+ghost use Rattle.text.specs.Pages.{nextLine, nextPage, toCome, Ready, Follows};
+use crate::put_end;
+use crate::put_line;
+use crate::put_words;
 use place::limits::FLEET_TRIES;
 use place::limits::Limits;
 use record::take::Taken;
@@ -50,33 +51,31 @@ impl Page {
         let next = answer.state;
         let number = self.number + 1;
         let kind = byte_at(bytes, 0);
-        let used = self.used;
-        let length = line_into(&mut buffer[used..], number, kind, answer.code, actions);
+        let used = put_line(buffer, self.used, number, kind, answer.code, actions);
         Page {
             state: next,
             at: self.at + bytes.len(),
             number,
-            used: used + length,
+            used,
         }
     }
 
     // The last line; answers how long the sheet is.
     fn end(self, stop: u8, buffer: &mut [u8]) -> usize
-        requires { ⌜ Ready self (now buffer) ⌝ }
+        requires { ⌜ self .used + length (endText stop (self .number)) ≤ length (now buffer) ⌝ }
         ensures { λ r.
             ⌜ (r ≡ self .used + length (endText stop (self .number)))
             × (now (buffer .exit)
             ≡ putAt (endText stop (self .number)) (self .used) (now (buffer .entry))) ⌝ }
     {
-        let used = self.used;
-        used + end_into(&mut buffer[used..], stop, self.number)
+        put_end(buffer, self.used, stop, self.number)
     }
 
     // The rest of the sheet, from the record at the offset reached to the last line; answers how long the sheet is.
     // The budget is not tested: a record has at least one byte, so that 4,096 bytes hold at most 4,096 records, and when these are read
     // nothing is left.
     fn fill(self, input: &[u8], buffer: &mut [u8]) -> usize
-        requires { ⌜ Ready self (now buffer) × (self .at ≤ length (now input)) × (length (now input) ≤ mostInput) ⌝ }
+        requires { ⌜ Ready self (now input) (now buffer) ⌝ }
         ensures { λ r.
             ⌜ (r ≡ self .used + length (toCome self (now (input .entry))))
             × (now (buffer .exit)
@@ -112,7 +111,7 @@ pub fn sheet_into(input: &[u8], buffer: &mut [u8]) -> usize
         return 0;
     }
     if input.len() > MOST_INPUT {
-        return words_into(buffer, b"too long\n");
+        return put_words(buffer, 0, b"too long\n");
     }
     let start = cold_start(Limits {
         lowest: LOWEST_X,
@@ -120,7 +119,7 @@ pub fn sheet_into(input: &[u8], buffer: &mut [u8]) -> usize
         tries: FLEET_TRIES,
     });
     let state = start.state;
-    let used = words_into(buffer, b"rec kind code actions\n");
+    let used = put_words(buffer, 0, b"rec kind code actions\n");
     let page = Page {
         state,
         at: 0,

@@ -1,9 +1,11 @@
 -- No second answer satisfies the contract of a public function: a line for each of this crate's, over the contract as the checker names it.
--- Proves: state-apply-once, state-on-record-once, cold-start-once, default-start-once, state-is-sound-once, run-once, limits-ok-once,
--- train-ok-once, marks-ok-once, last-is-sound-once, last-meant-once, last-recall-once, in-force-once, spend-once, displaced-once.
+-- Proves: state-apply-once, state-on-record-unchecked-once, state-on-record-once, cold-start-once, default-start-once,
+-- state-is-sound-once, run-once, limits-ok-once, train-ok-once, marks-ok-once, last-is-sound-once, last-meant-once, last-recall-once,
+-- in-force-once, spend-once, displaced-once.
 use mathlib.Core.Path.{_≡_, sym, _∙_}
 use denote.Ref.{now}
 use Rattle.unit.proofs.state.State.apply.Reads as state-apply
+use Rattle.unit.proofs.state.State.on_record_unchecked.Reads as state-on-record-unchecked
 use Rattle.unit.proofs.state.State.on_record.Reads as state-on-record
 use Rattle.unit.proofs.start.cold_start.Reads as cold-start
 use Rattle.unit.proofs.start.default_start.Reads as default-start
@@ -24,6 +26,12 @@ pub state-apply-once : (κ : _) (self : _) (bytes : _) (r₁ : _) (r₂ : _)
     → state-apply.Post κ (self, (bytes, tt)) r₂ (self, (bytes, tt))
     → r₁ ≡ r₂
 state-apply-once κ self bytes r₁ r₂ p q = p ∙ sym q
+
+pub state-on-record-unchecked-once : (κ : _) (self : _) (bytes : _) (actions : _) (r₁ : _) (r₂ : _) (actions₁ : _) (actions₂ : _)
+    → state-on-record-unchecked.Post κ (self, (bytes, (actions, tt))) r₁ (self, (bytes, (actions₁, tt)))
+    → state-on-record-unchecked.Post κ (self, (bytes, (actions, tt))) r₂ (self, (bytes, (actions₂, tt)))
+    → (r₁ ≡ r₂) × (now actions₁ ≡ now actions₂)
+state-on-record-unchecked-once κ self bytes actions r₁ r₂ actions₁ actions₂ p q = (p .0 ∙ sym (q .0), p .1 ∙ sym (q .1))
 
 pub state-on-record-once : (κ : _) (self : _) (bytes : _) (actions : _) (r₁ : _) (r₂ : _) (actions₁ : _) (actions₂ : _)
     → state-on-record.Post κ (self, (bytes, (actions, tt))) r₁ (self, (bytes, (actions₁, tt)))

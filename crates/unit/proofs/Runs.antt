@@ -1,6 +1,7 @@
 -- The laws of the run, and of what it counts.
 pub mod Tallies
 pub mod Takes
+pub mod Fronts
 pub mod Applied
 pub mod Going
 pub mod Starting

@@ -1,6 +1,6 @@
 -- The actions' bytes in the buffer, action after action as the code writes them.
--- Proves: given-none, given-some, appended-none, appended-one, appended-numbers, sending-length, written-none, turn-appended, listed-take.
-use mathlib.Core.Path.{_≡_, refl, sym, ap, ap₂, subst⁻¹, _∙_}
+-- Proves: given-none, given-some, appended-none, appended-one, appended-numbers, sending-length, written-none, listed-take.
+use mathlib.Core.Path.{_≡_, refl, sym, ap, ap₂, _∙_}
 use mathlib.Core.List.{List, [], _∷_, _++_, map, append-nil, append-assoc, map-append}
 use Prim.Native.Nat.{ℕ, _+_, _*_, _-_, _≤_, _<_}
 use native.Mathlib.Omega.{arith}
@@ -10,8 +10,6 @@ use lib.Seq.{sets, take-at, take-all, getD-at}
 use Rattle.wire.specs.Blocks.{blocks}
 use Rattle.wire.proofs.Blocks.{blocks-length, filled-more}
 use Rattle.wire.proofs.Padded.{padded-take}
-use Rattle.place.specs.Table.{numbers}
-use Rattle.place.specs.declared.turn.Turn.{Turn}
 use Rattle.record.specs.declared.partner.Partner.{Partner}
 use Rattle.unit.specs.Steps.{act}
 use Rattle.unit.specs.OnRecords.{actionRoom, actionSize, bytesOf, actionBytes, written}
@@ -90,14 +88,6 @@ appended-numbers before between after count next p xs ys first sent second acts 
 pub sending-length : (c : Change) → length (sending c) ≡ length (given (c .first)) + length (given (c .second))
 sending-length c =
     length-map (given (c .first) ++ given (c .second)) (act (c .partner)) ∙ length-append (given (c .first)) (given (c .second))
-
--- a turn's actions, by which turn it is
-pub turn-appended : (t u : Turn) (before after : List ℕ) (count r : ℕ) (p : Partner)
-    → t ≡ u
-    → (r ≡ count + length (numbers u)) × Appended before after count (map (act p) (numbers u))
-    → (r ≡ count + length (numbers t)) × Appended before after count (map (act p) (numbers t))
-turn-appended t u before after count r p same =
-    subst⁻¹ (λ x. (r ≡ count + length (numbers x)) × Appended before after count (map (act p) (numbers x))) same
 
 -- the actions counted in the code's array are the list's
 pub listed-take : (acts : List Action) → length acts ≤ mostActions → take (listed acts .count) (listed acts .items) ≡ acts

@@ -1,5 +1,5 @@
 -- Only private contracts use what stands here: actions as they are gathered, and a step as the code reads it before it is carried out.
--- Defines: pushed, pushAll, given, sending, noted, closesAny, settled, made, carried, sentBehind, Appended.
+-- Defines: pushed, pushAll, given, closingNumber, sentFor, sending, noted, closesAny, settled, made, carried, sentBehind, Appended.
 use Rattle.place.specs.declared.turn.Closing.{Closing}
 use Rattle.place.specs.declared.turn.Closing.the-variants.{Every, Sessions, Nothing}
 use Rattle.unit.specs.declared.state.Train.{Train}
@@ -17,12 +17,14 @@ use mathlib.Core.Bool.{Bool, true, false, cond}
 use mathlib.Core.Path.{_≡_}
 use mathlib.Core.List.{List, [], _∷_, _++_, map}
 use lib.Dec.{eqb, ltb}
-use lib.ListN.{length, set}
+use lib.ListN.{length, set, getD}
 use Rattle.wire.specs.Refusals.{accepted}
 use Rattle.unit.specs.Forms.{mostActions, noAction}
 use Rattle.unit.specs.OnRecords.{written}
 use Rattle.unit.specs.States.{placeCount, nowhere}
-use Rattle.place.specs.Places.{vacant}
+use Rattle.place.specs.Places.{vacant, partnerOf}
+use Rattle.place.specs.Table.{numbers, closedBy}
+use Rattle.place.specs.declared.place.Place.{Place}
 use Rattle.unit.specs.Steps.{Outcome, refusedAt, done, act, withPlaces, closed, closingActions}
 
 -- one more action, where there is room for it
@@ -38,6 +40,16 @@ pushAll a p (number ∷ ks) = pushAll (pushed a p number) p ks
 -- the action that a number gives; 0 gives none
 unfoldable pub given : ℕ → List ℕ
 given number = cond (eqb number 0) [] (number ∷ [])
+
+-- the number of the action that a closing sends to the partner of a place, 0 for none: it has at most one
+abbrev pub closingNumber : Closing → Place → ℕ
+closingNumber which p = getD (numbers (closedBy which p)) 0 0
+
+-- the actions of these numbers, each for the partner of its place
+unfoldable pub sentFor : List Place → List ℕ → List Action
+sentFor [] ks = []
+sentFor (p ∷ ps) [] = []
+sentFor (p ∷ ps) (number ∷ ks) = map (act (partnerOf p)) (given number) ++ sentFor ps ks
 
 -- the actions that a change sends last
 abbrev pub sending : Change → List Action

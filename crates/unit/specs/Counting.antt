@@ -1,16 +1,20 @@
 -- Only private contracts use what stands here: counting while a run goes on.
--- Defines: mostTotal, added, Below, Bounded, tallyOf, refusedRest, acceptedRest.
+-- Defines: mostTotal, added, Below, Bounded, tallyOf, frontWithin, refusedRest, acceptedRest.
 use Rattle.place.specs.Table.{request, release, incompatible, initiate, terminate, established}
 use Rattle.unit.specs.declared.run.Totals.{Totals}
 use Rattle.unit.specs.declared.run.Tally.{Tally}
 use Rattle.unit.specs.declared.run.Rest.{Rest}
 use Rattle.unit.specs.declared.change.Change.{Change}
 use Rattle.place.specs.declared.place.Place.{Place}
-use mathlib.Core.List.{List}
+use mathlib.Core.List.{List, [], _∷_}
 use Prim.Native.Nat.{ℕ, _+_, _*_, _≤_}
-use mathlib.Core.Bool.{cond}
+use mathlib.Core.Bool.{cond, not}
 use lib.Dec.{eqb}
-use Rattle.record.specs.Takes.{longestLog}
+use Rattle.wire.specs.Bytes.{isEmpty}
+use Rattle.wire.specs.Orders.{firstThatApplies}
+use Rattle.record.specs.Takes.{longestLog, nothingLeft, budgetUsed, takeOne, frontOf}
+use Rattle.record.specs.declared.take.Front.{Front}
+use Rattle.record.specs.declared.take.Front.the-variants.{Stop}
 
 -- no total passes four actions for each byte of the longest log
 abbrev pub mostTotal : ℕ
@@ -53,6 +57,11 @@ tallyOf r ps =
       refused = r .refused;
       totals = r .totals;
     }
+
+-- what a run meets next, with so many records read of its budget, in what is left of the log
+abbrev pub frontWithin : ℕ → ℕ → List ℕ → Front
+frontWithin read budget log =
+    firstThatApplies Stop ((not (isEmpty log), nothingLeft) ∷ (not (eqb read budget), budgetUsed) ∷ []) (frontOf (takeOne log))
 
 -- the rest of a run after a record of this length that was refused
 abbrev pub refusedRest : Rest → ℕ → Rest

@@ -1,5 +1,5 @@
 -- Document 01, "Rules of one step" on bytes: the step on a record, and the bytes of its actions.
--- Defines: actionRoom, actionSize, onReading, applied, onRecord, trace, bytesOf, actionBytes, written.
+-- Defines: actionRoom, actionSize, onReading, applied, onRecord, onRecordUnchecked, trace, bytesOf, actionBytes, written.
 use Prim.Native.Nat.{ℕ, _*_}
 use mathlib.Core.List.{List, [], _∷_, _++_}
 use lib.Dec.{leb}
@@ -36,6 +36,10 @@ applied s bytes = firstThatApplies (λ r. refused r s) ((sound s, notSound) ∷ 
 -- "First that applies, in these orders. Step: 10, 11, ..": room is the length of the action buffer
 unfoldable pub onRecord : State → List ℕ → ℕ → Outcome
 onRecord s bytes room = firstThatApplies (λ r. refused r s) ((leb actionRoom room, noRoom) ∷ []) (applied s bytes)
+
+-- the same where it was asked before whether the state is sound: of a sound state it is `onRecord` (`unchecked-sound`)
+unfoldable pub onRecordUnchecked : State → List ℕ → ℕ → Outcome
+onRecordUnchecked s bytes room = firstThatApplies (λ r. refused r s) ((leb actionRoom room, noRoom) ∷ []) (onReading s (reading bytes))
 
 -- the outcomes of a history, "a row of event records, each given 20 bytes for its actions"
 unfoldable pub trace : State → List (List ℕ) → List Outcome

@@ -1,15 +1,14 @@
 // Answers of the box, and the actions of one step.
 ghost use mathlib.Core.Path.{_≡_};
 ghost use mathlib.Core.List.{List, []};
-ghost use Rattle.place.specs.Table.{numbers};
 ghost use Rattle.unit.specs.Steps.{refusedAt, refused, done};
 ghost use Rattle.unit.specs.Forms.{listed, packed};
-ghost use Rattle.unit.specs.Changes.{pushed, pushAll, given};
+ghost use Rattle.unit.specs.Changes.{pushed, pushAll, given, sentFor};
 use crate::search::Standing;
+use crate::state::PLACES;
 use crate::state::State;
 use place::action::NO_ACTION;
-use place::action::RELEASE;
-use place::turn::Turn;
+use place::place::Place;
 use record::partner::Partner;
 use wire::refusal::ACCEPTED;
 
@@ -78,25 +77,6 @@ impl Actions {
         }
     }
 
-    // The actions of a turn, after the others.
-    pub(crate) fn send(self, partner: Partner, turn: Turn) -> Actions
-        ensures { λ r. ⌜ r ≡ pushAll self partner (numbers turn) ⌝ }
-    {
-        match turn {
-            Turn::Stays => self,
-            Turn::Released => self.push(partner, RELEASE),
-            Turn::Becomes(_) => self,
-            Turn::Sends { number, phase: _ } => self.push(partner, number),
-            Turn::SendsBoth {
-                first,
-                second,
-                phase: _,
-            } => { self.push(partner, first).push(partner, second) }
-        }
-    }
-}
-
-impl Actions {
     // The action of this number, after the others; 0 is none.
     pub(crate) fn send_number(self, partner: Partner, number: u8) -> Actions
         ensures { λ r. ⌜ r ≡ pushAll self partner (given number) ⌝ }
@@ -106,6 +86,20 @@ impl Actions {
         } else {
             self.push(partner, number)
         }
+    }
+
+    // The actions of these numbers, each for the partner of its place; 0 is none.
+    pub(crate) fn of(places: [Place; 4], numbers: [u8; 4]) -> Actions
+        ensures { λ r. ⌜ r ≡ listed (sentFor places numbers) ⌝ }
+    {
+        let mut actions = Actions::none();
+        let mut i = 0;
+        while i < PLACES {
+            let place = places[i];
+            actions = actions.send_number(place.partner(), numbers[i]);
+            i += 1;
+        }
+        actions
     }
 }
 

@@ -4,9 +4,8 @@ ghost use mathlib.Core.List.{[], _∷_, map};
 ghost use Prim.Native.Nat.{_+_, _≤_, _<_};
 ghost use lib.ListN.{length};
 ghost use lib.Seq.{sets};
-ghost use Rattle.place.specs.Table.{numbers};
-ghost use Rattle.unit.specs.Steps.{refusedAt, act, withPlaces, closed, closingActions, step};
-ghost use Rattle.unit.specs.OnRecords.{actionRoom, actionSize, bytesOf, written, applied, onRecord};
+ghost use Rattle.unit.specs.Steps.{refusedAt, act, closed, closingActions, step};
+ghost use Rattle.unit.specs.OnRecords.{actionRoom, actionSize, bytesOf, written, applied, onRecord, onRecordUnchecked};
 ghost use Rattle.unit.specs.Forms.{mostActions, packed, stepped};
 ghost use Rattle.unit.specs.Changes.{given, sending, settled, made, sentBehind, Appended};
 use crate::answer::Action;
@@ -18,9 +17,8 @@ use crate::state::PLACES;
 use crate::state::State;
 use crate::step::closes_any;
 use place::action::NO_ACTION;
-use place::action::RELEASE;
+use place::place::Place;
 use place::turn::Closing;
-use place::turn::Turn;
 use record::event::Event;
 use record::event::Reading;
 use record::partner::Partner;
@@ -69,32 +67,9 @@ fn put_number(s: &mut [u8], count: usize, partner: Partner, number: u8) -> usize
     put_one(s, count, partner, number)
 }
 
-// Writes the actions of a turn behind so many others.
-fn put_turn(s: &mut [u8], count: usize, partner: Partner, turn: Turn) -> usize
-    requires { ⌜ (count + length (numbers turn) ≤ mostActions) × (actionRoom ≤ length (now s)) ⌝ }
-    ensures { λ r.
-        ⌜ (r ≡ count + length (numbers turn))
-        × Appended (now (s .entry)) (now (s .exit)) count (map (act partner) (numbers turn)) ⌝ }
-{
-    match turn {
-        Turn::Stays => count,
-        Turn::Released => put_one(s, count, partner, RELEASE),
-        Turn::Becomes(_) => count,
-        Turn::Sends { number, phase: _ } => put_one(s, count, partner, number),
-        Turn::SendsBoth {
-            first,
-            second,
-            phase: _,
-        } => {
-            let next = put_one(s, count, partner, first);
-            put_one(s, next, partner, second)
-        }
-    }
-}
-
-// A state whose places are closed, and how many actions were written.
-struct Closed {
-    state: State,
+// Places that are closed, and how many actions were written.
+struct Shut {
+    places: [Place; 4],
     count: usize,
 }
 
@@ -128,10 +103,10 @@ impl State {
     }
 
     // Closes the places that the closing is for, lowest first, and writes the actions as it goes.
-    fn write_closings(self, which: Closing, s: &mut [u8]) -> Closed
+    fn write_closings(self, which: Closing, s: &mut [u8]) -> Shut
         requires { ⌜ actionRoom ≤ length (now s) ⌝ }
         ensures { λ r.
-            ⌜ (r .state ≡ withPlaces self (closed which (self .places)))
+            ⌜ (r .places ≡ closed which (self .places))
             × (r .count ≡ length (closingActions which (self .places)))
             × (now (s .exit) ≡ written (closingActions which (self .places)) (now (s .entry))) ⌝ }
     {
@@ -140,14 +115,13 @@ impl State {
         let mut i = 0;
         while i < PLACES {
             let place = places[i];
-            let turn = place.closed_by(which);
-            count = put_turn(s, count, place.partner(), turn);
-            places[i] = place.after(turn);
+            let turned = place.close(which);
+            let next = turned.place;
+            count = put_number(s, count, place.partner(), turned.first);
+            places[i] = next;
             i += 1;
         }
-        let mut state = self;
-        state.places = places;
-        Closed { state, count }
+        Shut { places, count }
     }
 
     // The rest of a change, behind so many actions of closings.
@@ -177,7 +151,8 @@ impl State {
         let which = change.which;
         if closes_any(which) {
             let shut = self.write_closings(which, s);
-            let closed = shut.state;
+            let places = shut.places;
+            let closed = self.with_places(places);
             return closed.write_sent(change, shut.count, s);
         }
         self.write_sent(change, 0, s)
@@ -199,6 +174,23 @@ impl State {
         }
     }
 
+    // One step on an event record without the question whether the state is sound: no door, since only a sound state's answer is the
+    // box's. Refusals 10, 1, 2, 1, 3 and then those of the event. For a caller that has asked: a stored image is, when it is read.
+    pub fn on_record_unchecked(self, bytes: &[u8], actions: &mut [u8]) -> Stepped
+        ensures { λ r.
+            ⌜ (r ≡ stepped (onRecordUnchecked self (now (bytes .entry)) (length (now (actions .entry)))))
+            × (now (actions .exit)
+            ≡ written (onRecordUnchecked self (now (bytes .entry)) (length (now (actions .entry))) .actions) (now (actions .entry))) ⌝ }
+    {
+        if actions.len() < ACTION_ROOM {
+            return Stepped::refused(NO_ROOM, Standing::nowhere(), self);
+        }
+        match read(bytes) {
+            Reading::Meant(event) => self.write_step(event, actions),
+            Reading::Refused(code) => Stepped::refused(code, Standing::nowhere(), self),
+        }
+    }
+
     // One step on an event record: refusals 10, 11, 1, 2, 1, 3 and then those of the event, the first that applies.
     // An accepted step writes its actions to the front of the buffer and no other byte; a refused one writes nothing.
     pub fn on_record(self, bytes: &[u8], actions: &mut [u8]) -> Stepped
@@ -211,10 +203,7 @@ impl State {
             return Stepped::refused(NO_ROOM, Standing::nowhere(), self);
         }
         if self.is_sound() {
-            match read(bytes) {
-                Reading::Meant(event) => self.write_step(event, actions),
-                Reading::Refused(code) => Stepped::refused(code, Standing::nowhere(), self),
-            }
+            self.on_record_unchecked(bytes, actions)
         } else {
             Stepped::refused(NOT_SOUND, Standing::nowhere(), self)
         }

@@ -2,22 +2,22 @@
 ghost use mathlib.Core.Path.{_≡_};
 ghost use Prim.Native.Nat.{_+_, _*_, _≤_};
 ghost use mathlib.Core.Bool.{true};
-ghost use mathlib.Core.List.{map};
-ghost use lib.ListN.{length, set};
-ghost use Rattle.record.specs.declared.partner.Partner.{Partner};
+ghost use mathlib.Core.List.{List};
+ghost use lib.ListN.{length, set, drop};
 ghost use Rattle.record.specs.Takes.{longestLog};
-ghost use Rattle.place.specs.Table.{numbers};
-ghost use Rattle.unit.specs.States.{sound};
-ghost use Rattle.unit.specs.Steps.{act, closed, closingActions};
+ghost use Rattle.place.specs.declared.place.Place.{Place};
+ghost use Rattle.unit.specs.States.{placeCount, sound};
+ghost use Rattle.unit.specs.Changes.{sentFor};
 ghost use Rattle.unit.specs.Forms.{mostActions};
 ghost use Rattle.unit.specs.Runs.{noTotals, totalled, fresh, ended, go, run};
-ghost use Rattle.unit.specs.Counting.{mostTotal, added, Below, tallyOf, refusedRest, acceptedRest};
+ghost use Rattle.unit.specs.Counting.{mostTotal, added, Below, tallyOf, frontWithin, refusedRest, acceptedRest};
 use crate::change::Change;
 use crate::last::Last;
 use crate::state::Marks;
 use crate::state::PLACES;
 use crate::state::State;
 use crate::state::Train;
+use crate::step::close_places;
 use crate::step::closes_any;
 use place::action::ESTABLISHED;
 use place::action::INCOMPATIBLE;
@@ -27,14 +27,12 @@ use place::action::REQUEST;
 use place::action::TERMINATE;
 use place::limits::Limits;
 use place::place::Place;
-use place::turn::Closing;
-use place::turn::Turn;
 use record::event::Reading;
 use record::take::BUDGET_USED;
+use record::take::Front;
 use record::take::LONGEST_LOG;
 use record::take::NOTHING_LEFT;
-use record::take::Taken;
-use record::take::take_one;
+use record::take::front_at;
 use wire::refusal::ACCEPTED;
 use wire::refusal::LOG_TOO_LONG;
 use wire::refusal::NOT_SOUND;
@@ -114,22 +112,20 @@ impl Totals {
         }
     }
 
-    // The actions of a turn.
-    fn add_turn(self, turn: Turn) -> Totals
-        requires { ⌜ Below (mostTotal + mostActions) self ⌝ }
-        ensures { λ r. ⌜ ((p : Partner) → r ≡ totalled self (map (act p) (numbers turn))) ⌝ }
+    // The actions of these numbers.
+    fn add_all(self, numbers: [u8; 4]) -> Totals
+        requires { ⌜ Below mostTotal self ⌝ }
+        ensures { λ r.
+            ⌜ ((ps : List Place) → length ps ≡ placeCount → r ≡ totalled self (sentFor ps numbers))
+            × Below (mostTotal + mostActions) r ⌝ }
     {
-        match turn {
-            Turn::Stays => self,
-            Turn::Released => self.add(RELEASE),
-            Turn::Becomes(_) => self,
-            Turn::Sends { number, phase: _ } => self.add(number),
-            Turn::SendsBoth {
-                first,
-                second,
-                phase: _,
-            } => { self.add(first).add(second) }
+        let mut totals = self;
+        let mut i = 0;
+        while i < PLACES {
+            totals = totals.add(numbers[i]);
+            i += 1;
         }
+        totals
     }
 }
 
@@ -158,12 +154,6 @@ struct Rest {
     offset: usize,
     read: u32,
     refused: u32,
-    totals: Totals,
-}
-
-// Places that are closed, and the totals with the closings' actions.
-struct Swept {
-    places: [Place; 4],
     totals: Totals,
 }
 
@@ -279,26 +269,19 @@ impl Rest {
     }
 }
 
-impl State {
-    // Closes the places that the closing is for, and counts the actions.
-    fn sweep(self, which: Closing, counted: Totals) -> Swept
-        requires { ⌜ Below mostTotal counted ⌝ }
-        ensures { λ r.
-            ⌜ (r .places ≡ closed which (self .places))
-            × (r .totals ≡ totalled counted (closingActions which (self .places)))
-            × Below (mostTotal + mostActions) (r .totals) ⌝ }
+impl Rest {
+    // What the run meets next: the end of the log, then of the budget, then what stands at the offset reached.
+    fn front(self, log: &[u8], budget: usize) -> Front
+        ensures { λ r. ⌜ r ≡ frontWithin (self .read) budget (drop (self .offset) (now (log .entry))) ⌝ }
     {
-        let mut places = self.places;
-        let mut totals = counted;
-        let mut i = 0;
-        while i < PLACES {
-            let place = places[i];
-            let turn = place.closed_by(which);
-            totals = totals.add_turn(turn);
-            places[i] = place.after(turn);
-            i += 1;
+        let at = self.offset;
+        if at >= log.len() {
+            return Front::Stop(NOTHING_LEFT);
         }
-        Swept { places, totals }
+        if wide(self.read) == budget {
+            return Front::Stop(BUDGET_USED);
+        }
+        front_at(log, at)
     }
 }
 
@@ -311,45 +294,35 @@ fn go(state: State, log: &[u8], budget: usize) -> Report
     let mut rest = Rest::fresh(state);
     let mut places = state.places;
     loop {
-        let at = rest.offset;
-        if at >= log.len() {
-            break rest.report(NOTHING_LEFT, places);
-        }
-        if wide(rest.read) == budget {
-            break rest.report(BUDGET_USED, places);
-        }
-        match take_one(log, at) {
-            Taken::Stopped(stop) => {
+        match rest.front(log, budget) {
+            Front::Stop(stop) => {
                 break rest.report(stop, places);
             }
-            Taken::Refused(code) => {
-                break rest.report(code, places);
-            }
-            Taken::Whole { length, reading } => match reading {
+            Front::Next { length, reading } => match reading {
                 Reading::Refused(_) => {
                     rest = rest.refuse(length);
                 }
                 Reading::Meant(event) => {
-                    let state = rest.state(places);
-                    let change = state.change(event);
-                    let code = change.code;
+                    let change = rest.state(places).change(event);
                     let which = change.which;
                     let to = change.at;
                     let place = change.place;
                     let totals = rest.totals;
-                    if code != ACCEPTED {
-                        rest = rest.refuse(length);
-                    } else if closes_any(which) {
-                        let swept = state.sweep(which, totals);
-                        let closed = swept.places;
-                        let counted = swept.totals;
-                        rest = rest.accept(length, change, counted);
-                        places = seated(closed, to, place);
-                    } else if to < PLACES {
-                        rest = rest.accept(length, change, totals);
-                        places[to] = place;
+                    if change.code == ACCEPTED {
+                        if closes_any(which) {
+                            let closed = close_places(places, which);
+                            let shut = closed.places;
+                            let numbers = closed.numbers;
+                            rest = rest.accept(length, change, totals.add_all(numbers));
+                            places = seated(shut, to, place);
+                        } else if to < PLACES {
+                            rest = rest.accept(length, change, totals);
+                            places[to] = place;
+                        } else {
+                            rest = rest.accept(length, change, totals);
+                        }
                     } else {
-                        rest = rest.accept(length, change, totals);
+                        rest = rest.refuse(length);
                     }
                 }
             },

@@ -2,14 +2,17 @@
 ghost use mathlib.Core.Path.{_≡_};
 ghost use Prim.Native.Nat.{_≤_};
 ghost use lib.ListN.{length};
-ghost use Rattle.unit.specs.Steps.{closePlaces, step};
+ghost use mathlib.Core.List.{map};
+ghost use Rattle.unit.specs.Steps.{withPlaces, closed, step};
 ghost use Rattle.unit.specs.Forms.{mostActions, packed};
-ghost use Rattle.unit.specs.Changes.{closesAny, settled, made};
+ghost use Rattle.unit.specs.Changes.{closesAny, closingNumber, settled, made};
 use crate::answer::Actions;
 use crate::answer::Answer;
 use crate::change::Change;
 use crate::state::PLACES;
 use crate::state::State;
+use place::action::NO_ACTION;
+use place::place::Place;
 use place::turn::Closing;
 use record::event::Event;
 use wire::refusal::ACCEPTED;
@@ -25,24 +28,38 @@ pub(crate) fn closes_any(which: Closing) -> bool
     }
 }
 
+// Places that are closed, and for each of them the number of the action that is sent to its partner, 0 for none.
+pub(crate) struct Closed {
+    pub places: [Place; 4],
+    pub numbers: [u8; 4],
+}
+
+// Closes the places that the closing is for: what a step on values and a run change by it; on bytes it is `write_closings`.
+pub(crate) fn close_places(before: [Place; 4], which: Closing) -> Closed
+    ensures { λ r. ⌜ (r .places ≡ closed which before) × (r .numbers ≡ map (closingNumber which) before) ⌝ }
+{
+    let mut places = before;
+    let mut numbers = [NO_ACTION; 4];
+    let mut i = 0;
+    while i < PLACES {
+        let place = places[i];
+        let turned = place.close(which);
+        let next = turned.place;
+        numbers[i] = turned.first;
+        places[i] = next;
+        i += 1;
+    }
+    Closed { places, numbers }
+}
+
 impl State {
-    // Closes the places that the closing is for, lowest first.
-    fn close_places(self, which: Closing) -> Answer
-        ensures { λ r. ⌜ r ≡ packed (closePlaces which self) ⌝ }
+    // The state with these places.
+    pub(crate) fn with_places(self, places: [Place; 4]) -> State
+        ensures { λ r. ⌜ r ≡ withPlaces self places ⌝ }
     {
-        let mut places = self.places;
-        let mut actions = Actions::none();
-        let mut i = 0;
-        while i < PLACES {
-            let place = places[i];
-            let turn = place.closed_by(which);
-            actions = actions.send(place.partner(), turn);
-            places[i] = place.after(turn);
-            i += 1;
-        }
         let mut next = self;
         next.places = places;
-        Answer::done(next, actions)
+        next
     }
 
     // The state with a change's train, marks and place, and its last known RBC.
@@ -84,12 +101,14 @@ impl State {
         let partner = change.partner;
         let first = change.first;
         let second = change.second;
-        let closed = self.close_places(which);
-        let state = closed.state;
-        let actions = closed.actions;
-        let sent = actions
+        let places = self.places;
+        let closed = close_places(places, which);
+        let shut = closed.places;
+        let numbers = closed.numbers;
+        let sent = Actions::of(places, numbers)
             .send_number(partner, first)
             .send_number(partner, second);
+        let state = self.with_places(shut);
         Answer::done(state.settle(change), sent)
     }
 

@@ -33,11 +33,13 @@ use Rattle.image.proofs.Bytes.{imageA2-length}
 use Rattle.image.proofs.Putting.{wrote-a2-no-room, wrote-a2}
 use Rattle.image.proofs.RoundTrips.{readA2-written, writtenA2-read}
 use Rattle.image.proofs.Rescuing.{limits-started}
-use Rattle.firmware.specs.Calls.{onImage, returned, imageAfter, Seen, seenAfter}
+use Rattle.image.specs.Calls.{onImage, imageAfter}
+use Rattle.firmware.specs.Calls.{returned, Seen, seenAfter}
 use Rattle.firmware.specs.Along.{isAccepted}
 use Rattle.firmware.specs.AlongWords.{countOf}
 use Rattle.firmware.specs.Starts.{limitsOf, startReturned, startImage}
-use Rattle.firmware.proofs.Calling.{onImage-no-room, onImage-unread, onImage-steps, onImage-none, onImage-few, onImage-sound}
+use Rattle.image.proofs.Calling.{onImage-no-room, onImage-unread, onImage-steps}
+use Rattle.firmware.proofs.Calling.{onImage-none, onImage-few, onImage-sound}
 use Rattle.firmware.proofs.Calling.{onImage-next, next-written}
 use Rattle.firmware.proofs.Following.{written-length, done-returned, onImage-count, onImage-fits}
 

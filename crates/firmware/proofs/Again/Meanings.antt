@@ -22,7 +22,8 @@ use Rattle.unit.specs.OnRecords.{actionRoom}
 use Rattle.unit.specs.States.{cold}
 use Rattle.image.specs.Images.{bodyBytes, wholeBytes, imageA2}
 use Rattle.wire.specs.Bytes.{asBit}
-use Rattle.firmware.specs.Calls.{onImage, Seen, seenAfter}
+use Rattle.image.specs.Calls.{onImage}
+use Rattle.firmware.specs.Calls.{Seen, seenAfter}
 use Rattle.firmware.specs.Along.{Lent, lentRecords, roomy, seenAlong, lastImage, isAccepted}
 use Rattle.firmware.specs.AlongWords.{countOf, overSeen}
 use Rattle.firmware.specs.AlongWords.{actionsSeen, ordersSeen, callsSeen, lossesSeen}

@@ -23,7 +23,8 @@ use Rattle.unit.specs.declared.start.Started.{Started}
 use Rattle.image.specs.Images.{bodyBytes, wholeBytes, imageA2, imagedA2, placesIn, stateIn, sameBytes, readA2}
 use Rattle.history.specs.Histories.{after, summed, silent, timeouts}
 use Rattle.history.specs.Reaching.{rbc5, order5, lossesIn, ordering, calling, repeated, reaching}
-use Rattle.firmware.specs.Calls.{onImage, Seen, seenAfter}
+use Rattle.image.specs.Calls.{onImage}
+use Rattle.firmware.specs.Calls.{Seen, seenAfter}
 use Rattle.firmware.specs.Along.{lentRecords, roomy, seenAlong, lastImage}
 use Rattle.firmware.specs.AlongWords.{countOf}
 use Rattle.firmware.specs.AlongWords.{placesPassing, heldSeen, holdsSeen, waitsSeen}

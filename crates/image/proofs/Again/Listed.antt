@@ -23,15 +23,8 @@ use Rattle.image.proofs.Bytes.{same-bytes, bytes-same, imageA2-length}
 use Rattle.image.proofs.Again.Rescues.{rescue-kind, rescue-empty, rescue-refused}
 use Rattle.image.proofs.Again.Tails.{imageA2-tries}
 use Rattle.image.proofs.Mending.{mended-four}
-use Rattle.image.proofs.Rescuing.{changed-few, sizeOf-mark, sizeOf-place, sizeOf-last}
+use Rattle.image.proofs.Rescuing.{changed-none, changed-few, sizeOf-mark, sizeOf-place, sizeOf-last}
 use Rattle.image.proofs.Left.{rescued-left, accepted-long, body-byte}
-
--- nothing has changed between an image and itself
-changed-none : (fs image : List ℕ) → changed fs image image ≡ []
-unfolding changed
-changed-none [] image = refl
-changed-none (at ∷ fs) image =
-    ap (λ b. cond b (changed fs image image) (at ∷ changed fs image image)) (same-bytes (part at image)) ∙ changed-none fs image
 
 -- the list is that of the fields in which the image differs from what is left
 pub told-changed : (image : List ℕ) → told (rescue image) ≡ changed fieldOffsets image (rescued image)

@@ -1,43 +1,40 @@
 -- Cross-checks only: rules told a second time.
 -- Request Q-13: what an accepted rescue makes of each field, in the bytes of the image.
--- Proves: level-mended, mission-mended, marks-mended, end-mended, isPlaceOf-holds, isPlaceOf-means, place-mended, last-mended.
+-- Proves: mark-of, level-mended, mission-mended, marks-mended, end-mended, isPlaceOf-holds, isPlaceOf-means, place-mended, last-mended.
 use mathlib.Core.Path.{_≡_, refl, sym, ap, ap₂, _∙_}
 use mathlib.Core.Bool.{Bool, true, false, cond, _&&_, not}
 use mathlib.Core.List.{List, [], _∷_, _++_}
 use Prim.Native.Nat.{ℕ, zero, suc, _+_, _*_, _-_, _<_}
 use native.Mathlib.Omega.{arith}
 use lib.Dec.{eqb, leb}
-use lib.ListN.{length, length-drop, getD, take, drop, replicate, take-append-drop}
+use lib.ListN.{length, length-drop, take, drop, replicate, take-append-drop}
 use lib.Seq.{drop-drop, getD-drop}
 use borrow.Author.Tests.{ne-eqb, lt-leb}
 use Rattle.wire.specs.Bytes.{byte, flag}
 use Rattle.wire.specs.Refusals.{accepted}
 use Rattle.wire.proofs.Tests.{and-left, and-right, and-both, true-false, cond-holds}
 use Rattle.record.specs.Partners.{namedOk}
-use Rattle.place.specs.Places.{vacant, placeOk}
+use Rattle.place.specs.Places.{placeOk}
 use Rattle.place.specs.declared.limits.Limits.{Limits}
-use Rattle.place.specs.declared.place.Holding.{Holding}
-use Rattle.place.specs.declared.place.Holding.the-variants.{Free, Held}
 use Rattle.place.specs.declared.place.Place.{Place}
 use Rattle.unit.specs.Lasts.{rbcOf, lastOk}
-use Rattle.unit.specs.States.{placeCount, some, absentFrom}
+use Rattle.unit.specs.States.{placeCount, absentFrom}
 use Rattle.unit.specs.declared.last.Last.{Last}
 use Rattle.unit.specs.declared.last.Last.the-variants.{Unknown, Known}
 use Rattle.unit.specs.declared.start.Started.{Started}
-use Rattle.image.specs.Images.{placeSize, placeBytes, headSize, placeIn, lastBytes, lastIn, stateIn}
+use Rattle.image.specs.Images.{placeSize, placeBytes, placeIn, lastBytes, lastIn, stateIn}
 use Rattle.image.specs.Bodies.{placesAt, lastFrom}
 use Rattle.wire.specs.Bytes.{asBit}
 use Rattle.image.specs.Images.{sameBytes, imageA2, bodyBytes, wholeBytes, readA2}
-use Rattle.image.specs.Rescue.{isPlaceOf, mendPlace, mendPlaces, isLastOf, mendLast, mended, left, rescue, rescued}
+use Rattle.image.specs.Rescue.{isPlaceOf, isLastOf, mendLast, mended, left, rescue, rescued}
 use Rattle.image.proofs.Bytes.{placeIn-bytes, same-bytes, bytes-same}
-use Rattle.image.proofs.Mending.{mendPlaces-length, mended-sound}
+use Rattle.image.proofs.Mending.{mended-sound}
 use Rattle.image.proofs.RoundTrips.{readA2-written}
 use Rattle.image.proofs.Rescuing.{mendLast-by}
-use Rattle.image.proofs.Left.{rescued-left, accepted-long, accepted-limits, body-byte, limits-at, left-places}
-use Rattle.image.proofs.Left.{left-tail, mendPlaces-at, keepFirst-at}
+use Rattle.image.proofs.Left.{rescued-left, accepted-long, accepted-limits, body-byte, limits-at, left-place, left-tail}
 
 -- a mark's byte in its range, or 0
-mark-of : (b : ℕ) → asBit (flag b) ≡ cond (leb b 1) b 0
+pub mark-of : (b : ℕ) → asBit (flag b) ≡ cond (leb b 1) b 0
 mark-of zero = refl
 mark-of (suc zero) = refl
 mark-of (suc (suc b)) =
@@ -123,34 +120,6 @@ isPlaceOf-means l s is =
       sym (bytes-same (placeBytes (placeIn s)) (take placeSize s) (and-right (placeOk l (placeIn s)) own is)),
     )
 
--- the bytes of what is left of a place
-place-bytes : (l : Limits) (s : List ℕ) (b : Bool)
-    → placeBytes (cond b (mendPlace l s) vacant) ≡ cond (isPlaceOf l s && b) (take placeSize s) (replicate placeSize 0)
-place-bytes l s b = by (isPlaceOf l s) b refl
-  where
-    by : (good b : Bool)
-        → isPlaceOf l s ≡ good
-        → placeBytes (cond b (cond good (placeIn s) vacant) vacant) ≡ cond (good && b) (take placeSize s) (replicate placeSize 0)
-    by true true is = sym (isPlaceOf-means l s is .1)
-    by true false is = refl
-    by false true is = refl
-    by false false is = refl
-
--- where a place is sound by itself, what is mended is the place itself
-absent-by : (l : Limits) (s : List ℕ) (lower : List Place)
-    → (isPlaceOf l s && absentFrom lower (mendPlace l s .holding)) ≡ (isPlaceOf l s && absentFrom lower (placeIn s .holding))
-absent-by l s lower = by (isPlaceOf l s)
-  where
-    by : (good : Bool)
-        → (good && absentFrom lower (cond good (placeIn s) vacant .holding)) ≡ (good && absentFrom lower (placeIn s .holding))
-    by true = refl
-    by false = refl
-
-absent-nil : (k : Holding) → absentFrom [] k ≡ true
-unfolding some
-absent-nil Free = refl
-absent-nil (Held d ph p) = refl
-
 module _ (image : List ℕ) (i : ℕ) (ok : rescue image .code ≡ accepted) (below : i < placeCount) where
   -- the same by the names of the definitions
   place-left :
@@ -160,50 +129,20 @@ module _ (image : List ℕ) (i : ℕ) (ok : rescue image .code ≡ accepted) (be
       && absentFrom (take i (readA2 (rescued image) .state .places)) (placeIn (drop (placesAt + placeSize * i) image) .holding))
       (take placeSize (drop (placesAt + placeSize * i) image))
       (replicate placeSize 0)
-  unfolding mended
   place-left =
+      let l = stateIn (drop 1 image) .limits in
+      let s = drop (placesAt + placeSize * i) image in
       ap (λ b. take placeSize (drop (placesAt + placeSize * i) b)) (rescued-left image ok)
-      ∙ left-places image i below
-      ∙ ap placeBytes (keepFirst-at [] alone i (omega (arith, mendPlaces-length l placeCount (drop headSize body))))
-      ∙ ap placeBytes (ap (λ p. Kept p) here)
-      ∙ ap (λ b. placeBytes (cond (b && absentFrom lower (mendPlace l s .holding)) (mendPlace l s) vacant))
-      (absent-nil (mendPlace l s .holding))
-      ∙ place-bytes l s (absentFrom lower (mendPlace l s .holding))
-      ∙ ap Seven (absent-by l s lower)
-      ∙ ap (λ ps. Seven (isPlaceOf l s && absentFrom (take i ps) (placeIn s .holding))) (sym as-read)
+      ∙ left-place image i below
+      ∙ ap
+      (λ ps. cond (isPlaceOf l s && absentFrom (take i ps) (placeIn s .holding)) (take placeSize s) (replicate placeSize 0))
+      (sym as-read)
     where
-      body : List ℕ
-      body = drop 1 image
-
-      l : Limits
-      l = stateIn (drop 1 image) .limits
-
-      s : List ℕ
-      s = drop (placesAt + placeSize * i) image
-
-      alone : List Place
-      alone = mendPlaces (stateIn (drop 1 image) .limits) placeCount (drop headSize (drop 1 image))
-
-      lower : List Place
-      lower = take i (mended (drop 1 image) .places)
-
-      Kept : Place → Place
-      Kept p = cond (absentFrom [] (p .holding) && absentFrom lower (p .holding)) p vacant
-
-      Seven : Bool → List ℕ
-      Seven b = cond b (take placeSize s) (replicate placeSize 0)
-
-      here : getD alone i vacant ≡ mendPlace l s
-      here =
-          let whole : 1 + (headSize + placeSize * i) ≡ placesAt + placeSize * i = omega arith in
-          mendPlaces-at l placeCount (drop headSize body) i below
-          ∙ ap (mendPlace l)
-          (drop-drop (placeSize * i) headSize body ∙ drop-drop (headSize + placeSize * i) 1 image ∙ ap (λ n. drop n image) whole)
-
       as-read : readA2 (rescued image) .state .places ≡ mended (drop 1 image) .places
       as-read =
           ap (λ b. readA2 b .state .places) (rescued-left image ok)
-          ∙ ap (λ (r : Started). r .state .places) (readA2-written (mended body) (mended-sound body (accepted-limits image ok)))
+          ∙ ap (λ (r : Started). r .state .places)
+          (readA2-written (mended (drop 1 image)) (mended-sound (drop 1 image) (accepted-limits image ok)))
 
   -- "going upwards, a place that is not sound by itself, or repeats the partner of a lower kept place, becomes free": it is kept
   -- exactly where it is sound by itself, by the limits in the image, and no lower place of the mended image holds its partner

@@ -1,6 +1,6 @@
 -- The counts of a run, one record more.
--- Proves: totalled-none, totalled-append, totalled-one, totalled-sending, below-more, added-below, counted-made, counted-refused,
--- counted-kept, totalled-below, bounded-fresh, bounded-next.
+-- Proves: totalled-none, totalled-append, totalled-one, totalled-given, totalled-sending, below-more, added-below, counted-made,
+-- counted-refused, counted-kept, totalled-below, bounded-fresh, bounded-next.
 use mathlib.Core.Path.{_≡_, sym, ap, _∙_}
 use mathlib.Core.Bool.{Bool, true, false, cond}
 use mathlib.Core.List.{List, [], _∷_, _++_, map, map-append}
@@ -73,7 +73,7 @@ pub totalled-one : (t : Totals) (a : Action) → totalled t (a ∷ []) ≡ added
 totalled-one t a = totalled-cons t a [] ∙ totalled-none (added t (a .number))
 
 -- the action of a number; 0 is none of the six
-totalled-given : (t : Totals) (p : Partner) (number : ℕ) → totalled t (map (act p) (given number)) ≡ added t number
+pub totalled-given : (t : Totals) (p : Partner) (number : ℕ) → totalled t (map (act p) (given number)) ≡ added t number
 unfolding given added
 totalled-given t p number =
     cond-case (λ ks. totalled t (map (act p) ks) ≡ added t number) (eqb number 0) [] (number ∷ [])

@@ -1,6 +1,6 @@
--- Soundness is tested, then whether the state writes these bytes.
+-- Soundness is tested, then whether the bytes are the ones that the state writes.
 use borrow.Author.Needs.{needs}
-use mathlib.Core.Path.{_≡_, refl, sym, _∙_}
+use mathlib.Core.Path.{_≡_, refl, sym, ap, _∙_}
 use mathlib.Core.Bool.{Bool, true, false, cond, _&&_}
 use mathlib.Core.List.{List}
 use Prim.Native.Nat.{ℕ}
@@ -31,18 +31,22 @@ module _ (c : tie.After-is-sound) where
   reads-by good own test written =
       body-by body state good own (read .state-in .ensures) (sym (c .is-sound .ensures) ∙ test) written
 
--- a sound one, by whether it writes these bytes
-module _ (c : tie.After-writes) where
+-- a sound one, by whether these are the bytes that it writes
+module _ (c : tie.After-is-spelt) where
   abbrev sound-read : tie.After-is-sound
   sound-read = c .before .before
 
   reads : (own : Bool)
-      → c .writes .result ≡ own
+      → c .is-spelt .result ≡ own
       → cond own (record { code = accepted; state = state sound-read }) (readRefused notSound) ≡ readBody (body sound-read)
-  reads own test = reads-by sound-read true own (c .before .if1 .taken) (sym (c .writes .ensures) ∙ test)
+  reads own test =
+      reads-by sound-read true own (c .before .if1 .taken)
+      (ap (λ s. sameBytes (wholeBytes s) (body sound-read)) (read sound-read .state-in .ensures) ∙ sym (c .is-spelt .ensures) ∙ test)
 
-writes-requires : tie.Need-writes-requires
-writes-requires c κs = sym (c .before .is-sound .ensures) ∙ c .if1 .taken
+is-spelt-requires : tie.Need-is-spelt-requires
+is-spelt-requires c κs =
+    let decoded = c .before .before in
+    (decoded .before .before .pre, decoded .state-in .ensures)
 
 returns : tie.Need-returns
 returns c = reads (c .before) true (c .if2 .taken)
@@ -60,5 +64,5 @@ returns-3 c =
 pub read-body-spec : {M : Type 1} → statement M
 read-body-spec =
     tie.close
-    (tie.spec (λ c κs. search needs) (λ c κs. search needs) writes-requires (λ c κs. search needs)
+    (tie.spec (λ c κs. search needs) (λ c κs. search needs) is-spelt-requires (λ c κs. search needs)
     (λ c κs. search needs) returns returns-2 returns-3)

@@ -34,15 +34,20 @@ loop-again c =
     let stored = ap (λ l. set l (passed .i) (getD body (passed .i) 0)) (passed .inv .1) in
     (omega arith, stored ∙ copy-more body (start .pre) (passed .i) (omega arith))
 
-slice-aggregate-read-body : tie.Need-slice-aggregate-read-body Inv-loop μ-loop
-slice-aggregate-read-body c =
-    let at = c .before .before in
-    let passed = at .loop in
-    let start = at .before .before in
-    sym
-    (length-set (passed .whole) 36 fleetTries
+-- the copy has the length of a body
+copied-length : (c : tie.At-loop Inv-loop μ-loop) → length (set (c .loop .whole) 36 fleetTries) ≡ 41
+copied-length c =
+    let passed = c .loop in
+    let start = c .before .before in
+    length-set (passed .whole) 36 fleetTries
     ∙ ap length (passed .inv .1)
-    ∙ copy-length (now (start .args .body)) (start .pre) (passed .i) (passed .inv .0))
+    ∙ copy-length (now (start .args .body)) (start .pre) (passed .i) (passed .inv .0)
+
+slice-aggregate-read-body : tie.Need-slice-aggregate-read-body Inv-loop μ-loop
+slice-aggregate-read-body c = sym (copied-length (c .before .before))
+
+read-body-requires : tie.Need-read-body-requires Inv-loop μ-loop
+read-body-requires c κs = copied-length (c .before .before)
 
 returns : tie.Need-returns Inv-loop μ-loop
 returns c =
@@ -59,5 +64,4 @@ pub read-body-a1-spec : {M : Type 1} → statement M
 read-body-a1-spec =
     tie.close
     (tie.spec Inv-loop μ-loop loop-holds shared-slice-read-whole (λ c. omega arith) (λ c. omega arith) (λ c. omega arith)
-    loop-again (λ c. search needs) slice-aggregate-read-body
-    (λ c κs. search needs) returns)
+    loop-again (λ c. search needs) slice-aggregate-read-body read-body-requires returns)

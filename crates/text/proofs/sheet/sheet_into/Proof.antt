@@ -15,23 +15,23 @@ returns c =
 
 returns-2 : tie.Need-returns-2
 returns-2 c =
-    let placed = c .before .before in
-    let long = placed .before .before .before in
+    let put = c .before .before in
+    let long = put .before .before .before in
     let room = long .before in
     let start = room .before .before .before in
-    sheet-long (now (start .args .input)) (now (start .args .buffer)) (room .if1 .left) (long .if2 .taken) _ _
-    (placed .words-into .ensures)
+    sheet-long (now (start .args .input)) (now (start .args .buffer)) (room .if1 .left) (long .if2 .taken) _ _ (put .put-words .ensures)
 
 fill-requires : tie.Need-fill-requires
 fill-requires c κs =
     let headed = c .before .before .before in
-    let short = headed .before .before .before .before .before in
+    let begun = headed .before .before .before .before in
+    let short = begun .before in
     let room = short .before in
     let start = room .before .before .before in
     let ready =
     header-ready (now (start .args .input)) (now (start .args .buffer)) (room .if1 .left) (short .if2 .left) _ _
-    (headed .words-into2 .ensures) in
-    ((omega arith, omega arith, ready .0, ready .1), omega arith, short .if2 .left)
+    (headed .put-words2 .ensures) _ (ap (λ s. s .state) (begun .cold-start .ensures)) in
+    (omega arith, short .if2 .left, omega arith, ready)
 
 returns-3 : tie.Need-returns-3
 returns-3 c =
@@ -42,8 +42,7 @@ returns-3 c =
     let room = short .before in
     let start = room .before .before .before in
     sheet-whole (now (start .args .input)) (now (start .args .buffer)) (room .if1 .left) (short .if2 .left) _ _
-    (headed .words-into2 .ensures) _
-    (ap (λ s. s .state) (begun .cold-start .ensures)) _ _
+    (headed .put-words2 .ensures) _ (ap (λ s. s .state) (begun .cold-start .ensures)) _ _
     (filled .fill .ensures)
 
 pub sheet-into-spec : {M : Type 1} → statement M

@@ -1,26 +1,23 @@
 -- The line of the answer, put after the others.
 use borrow.Author.Needs.{needs}
+use mathlib.Core.Path.{_≡_, sym, subst}
 use mathlib.Core.List.{List}
 use Prim.Native.Nat.{ℕ, _+_, _≤_}
-use native.Mathlib.Omega.{arith}
 use denote.Ref.{now}
-use lib.ListN.{length}
-use Rattle.text.specs.Making.{textRoom}
+use lib.ListN.{length, take}
+use Rattle.unit.specs.declared.answer.Answer.{Answer}
+use Rattle.text.specs.Texts.{lineText}
+use Rattle.text.specs.Pages.{nextLine}
 use Rattle.text.specs.declared.sheet.Page.{Page}
-use Rattle.text.proofs.Pages.{next-room, next-put, next-page}
+use Rattle.text.proofs.Putting.{Put}
+use Rattle.text.proofs.Pages.{next-line, next-page}
 use Rattle.text.proofs.sheet.Page.next.Statement.{statement}
 use Rattle.text.proofs.sheet.Page.next.Tie as tie
 
--- the line of the answer, and where it was put
-module _ (c : tie.After-struct-known2) where
-  abbrev wrote : tie.After-line-into
-  wrote = c .before .before .before
-
-  abbrev looked : tie.After-byte-at
-  looked = wrote .before .before
-
+-- the answer, and its line
+module _ (c : tie.After-byte-at) where
   abbrev made : tie.After-apply
-  made = looked .before .before .before .before
+  made = c .before .before .before .before
 
   abbrev start : tie.Start
   start = made .before .before .before .before
@@ -31,25 +28,29 @@ module _ (c : tie.After-struct-known2) where
   abbrev bytes : List ℕ
   bytes = now (start .args .bytes)
 
-  abbrev buffer : List ℕ
-  buffer = now (start .args .buffer)
+  abbrev answer : Answer
+  answer = made .apply .result
 
-  room : page .used + textRoom ≤ length buffer
-  room = omega (arith, start .pre)
+  abbrev line : List ℕ
+  line = lineText (page .number + 1) (c .byte-at .result) (answer .code) (take (answer .actions .count) (answer .actions .items))
 
-add-t17 : tie.Need-add-t17
-add-t17 c =
-    let answer = made c .apply .ensures in
-    let put =
-    next-put (page c) (bytes c) _ answer _ (looked c .byte-at .ensures) (buffer c) (room c) _ _ (wrote c .line-into .ensures) in
-    omega (arith, put .0, start c .pre, next-room (page c) (bytes c))
+  line-is : line ≡ nextLine page bytes
+  line-is = next-line page bytes answer (made .apply .ensures) _ (c .byte-at .ensures)
+
+put-line-requires : tie.Need-put-line-requires
+put-line-requires c κs =
+    let looked = c .before in
+    let begun = start looked in
+    subst (λ l. page looked .used + length l ≤ length (now (begun .args .buffer))) (sym (line-is looked)) (begun .pre .2)
 
 returns : tie.Need-returns
 returns c =
-    let answer = made c .apply .ensures in
-    let put =
-    next-put (page c) (bytes c) _ answer _ (looked c .byte-at .ensures) (buffer c) (room c) _ _ (wrote c .line-into .ensures) in
-    (next-page (page c) (bytes c) _ answer _ (put .0), put .1)
+    let put = c .before .before .before in
+    let looked = put .before .before in
+    let told =
+    subst (λ l. Put l (page looked .used) (now (start looked .args .buffer)) (put .put-line .result) (put .put-line .last .0))
+    (line-is looked) (put .put-line .ensures) in
+    (next-page (page looked) (bytes looked) _ (made looked .apply .ensures) _ (looked .byte-at .ensures) _ (told .0), told .1)
 
 pub next-spec : {M : Type 1} → statement M
 next-spec =
@@ -58,11 +59,7 @@ next-spec =
     (λ c κs. search needs)
     (λ c. search needs)
     (λ c κs. search needs)
+    put-line-requires
     (λ c. search needs)
-    (λ c. search needs)
-    (λ c. search needs)
-    (λ c κs. search needs)
-    (λ c. search needs)
-    add-t17
     (λ c. search needs)
     returns)

@@ -1,12 +1,13 @@
 -- With closings or without.
 use borrow.Author.Needs.{needs}
-use mathlib.Core.Path.{sym, _∙_}
+use mathlib.Core.Path.{sym, ap, _∙_}
 use mathlib.Core.List.{List}
 use Prim.Native.Nat.{ℕ}
 use native.Mathlib.Omega.{arith}
 use denote.Ref.{now}
 use Rattle.unit.specs.declared.change.Change.{Change}
 use Rattle.unit.specs.declared.state.State.{State}
+use Rattle.unit.specs.Steps.{withPlaces}
 use Rattle.unit.proofs.Settling.{made-length, unclosed, written-made}
 use Rattle.unit.proofs.state.State.write_change.Statement.{statement}
 use Rattle.unit.proofs.state.State.write_change.Tie as tie
@@ -26,29 +27,31 @@ module _ (c : tie.After-closes-any) where
   buffer = now (start .args .s)
 
 -- where some closed, and their actions are written
-module _ (c : tie.After-closed) where
-  abbrev shut : tie.After-write-closings
-  shut = c .before .before .before
-
+module _ (c : tie.After-write-closings) where
   abbrev some : tie.After-closes-any
-  some = shut .before .before .before
+  some = c .before .before .before
 
 write-sent-requires : tie.Need-write-sent-requires
 write-sent-requires c κs =
-    let closed = c .before in
-    let given = start (some closed) .pre in
-    let wrote = shut closed .write-closings in (
-      omega (arith, given .0, made-length (self (some closed)) (change (some closed)), wrote .ensures .1),
+    let stated = c .before in
+    let shut = stated .before .before .before .before in
+    let asked = some shut in
+    let given = start asked .pre in
+    let wrote = shut .write-closings in (
+      omega (arith, given .0, made-length (self asked) (change asked), wrote .ensures .1),
       omega (arith, given .1, wrote .kept .1 .1 .0),
     )
 
 returns : tie.Need-returns
 returns c =
-    let sent = c .before .before in
-    let closed = sent .before .before in
-    let asked = some closed in
-    let wrote = shut closed .write-closings .ensures in
-    written-made (self asked) (change asked) _ _ _ (buffer asked) _ _ (wrote .0) (wrote .1) (wrote .2) (sent .write-sent .ensures)
+    let last = c .before .before in
+    let stated = last .before .before in
+    let shut = stated .before .before .before .before in
+    let asked = some shut in
+    let wrote = shut .write-closings .ensures in
+    written-made (self asked) (change asked) _ _ _ (buffer asked) _ _
+    (stated .with-places .ensures ∙ ap (withPlaces (self asked)) (wrote .0)) (wrote .1) (wrote .2)
+    (last .write-sent .ensures)
 
 write-sent-requires-2 : tie.Need-write-sent-requires-2
 write-sent-requires-2 c κs =
@@ -67,6 +70,6 @@ returns-2 c =
 pub write-change-spec : {M : Type 1} → statement M
 write-change-spec =
     tie.close
-    (tie.spec (λ c κs. search needs) (λ c κs. start (c .before .before) .pre .1)
+    (tie.spec (λ c κs. search needs) (λ c κs. start (c .before .before) .pre .1) (λ c κs. search needs)
     write-sent-requires (λ c. search needs) returns
     write-sent-requires-2 (λ c. search needs) returns-2)
