@@ -1,1 +1,2 @@
+#![tactic(auto)]
 // The promises on one page: theorems only, no function.

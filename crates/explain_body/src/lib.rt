@@ -1,3 +1,4 @@
+#![tactic(auto)]
 // The bodies of `show_image` and `show_images` (file stored), of `mend_image` and `mend_images` (file mended), and of `explain` and
 // `explains`: a line for each record of a log, which is shown before it is applied, then why the log ends there, the places as they stand,
 // and the last known RBC. It cold starts with X from 1 to 2 and three tries, as `sheet` does.
@@ -19,7 +20,7 @@ use unit::state::State;
 use wire::byte::byte_at;
 
 // How far the log is explained: the state, the offset reached, the records read, and whether more may follow.
-#[derive(Drop)]
+#[derive(Clone, Copy)]
 struct Walk {
     state: State,
     at: usize,

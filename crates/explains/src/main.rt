@@ -1,3 +1,4 @@
+#![tactic(auto)]
 // Five logs in words, each after its name: empty, an unknown kind, too long, one that leaves places in every phase but Ending, and
 // orders to the last known RBC.
 use libc::STDOUT_FILENO;

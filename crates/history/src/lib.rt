@@ -1,1 +1,2 @@
+#![tactic(auto)]
 // Theorems about every history of the box; no function.

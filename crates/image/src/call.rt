@@ -8,7 +8,7 @@ use unit::bytes::ACTION_ROOM;
 use wire::refusal::{ACCEPTED, NO_ROOM};
 
 // What a step on an image answers: 0 or the number of the refusal, and how many actions were written.
-#[derive(Drop)]
+#[derive(Clone, Copy)]
 pub struct Called {
     pub code: u8,
     pub count: usize,

@@ -1,3 +1,4 @@
+#![tactic(auto)]
 // The stored image of a state: written and read by one layout.
 pub mod call;
 pub mod layout;

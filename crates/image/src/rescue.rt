@@ -31,7 +31,7 @@ const LAST_FIELD: u8 = LAST_AT as u8;
 pub const FIELDS: usize = 11;
 
 // What a rescue answers: 0 or the number of the refusal, and the first offsets of the changed fields, ascending.
-#[derive(Drop)]
+#[derive(Clone, Copy)]
 pub struct Rescued {
     pub code: u8,
     pub fields: [u8; 11],

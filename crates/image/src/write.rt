@@ -16,7 +16,7 @@ use unit::state::{PLACES, State};
 use wire::refusal::{ACCEPTED, NO_ROOM, NOT_IN_A1, NOT_SOUND};
 
 // What writing an image answers: 0 or the number of the refusal, the state as given, and the bytes written.
-#[derive(Drop)]
+#[derive(Clone, Copy)]
 pub struct Stored {
     pub code: u8,
     pub state: State,

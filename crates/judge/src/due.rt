@@ -16,7 +16,7 @@ pub const ANSWER_KIND: u8 = 30;
 pub const ANSWER_SIZE: usize = 2;
 
 // What is due: an event record, the answer to one, or one of its actions.
-#[derive(Drop)]
+#[derive(Clone, Copy)]
 pub enum Due {
     AnEvent,
     TheAnswer(u8),
@@ -24,7 +24,7 @@ pub enum Due {
 }
 
 // What stands where a record is due: the right one (or the sheet's end, where an event is due), a wrong one, a short one, or nothing.
-#[derive(Drop)]
+#[derive(Clone, Copy)]
 pub enum Finding {
     Right,
     Wrong,
@@ -33,7 +33,7 @@ pub enum Finding {
 }
 
 // A point of a sheet: what stands at this offset, and what is due there.
-#[derive(Drop)]
+#[derive(Clone, Copy)]
 pub struct Point {
     pub stands: Finding,
     pub at: usize,

@@ -15,7 +15,7 @@ pub const LONGEST_SHEET: usize = 1_048_576;
 
 // What the judge answers: 0 or the number of the refusal, the event records that stand right with all that follows them, and the point
 // reached: right at the end of an accepted sheet, else the first record that is wrong, short or missing.
-#[derive(Drop)]
+#[derive(Clone, Copy)]
 pub struct Verdict {
     pub code: u8,
     pub records: usize,

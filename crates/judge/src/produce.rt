@@ -18,7 +18,7 @@ use unit::state::State;
 use wire::refusal::{ACCEPTED, LOG_TOO_LONG, NO_ROOM};
 
 // What making a sheet answers: 0 or the number of the refusal, the bytes written, the event records, and the run's stop.
-#[derive(Drop)]
+#[derive(Clone, Copy)]
 pub struct Produced {
     pub code: u8,
     pub written: usize,
@@ -27,7 +27,7 @@ pub struct Produced {
 }
 
 // The sheet of a log, counted: its bytes, its event records, and the stop.
-#[derive(Drop)]
+#[derive(Clone, Copy)]
 struct Measured {
     size: usize,
     records: usize,

@@ -7,7 +7,7 @@ use crate::judge::{Verdict, judge_from};
 use place::limits::Limits;
 
 // A lent sheet and the offset reached.
-#[derive(Drop)]
+#[derive(Clone, Copy)]
 pub struct Reader<'a> {
     pub sheet: &'a [u8],
     pub at: usize,

@@ -1,3 +1,4 @@
+#![tactic(auto)]
 // What `resheftal` prints for sheets that it judges, for logs that it makes sheets and marks of, gives to the shunter or runs through both
 // engines, and for states that it looks up, each after its name; and what differs in pairs of states and answers made by hand.
 mod both;

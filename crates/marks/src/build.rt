@@ -16,7 +16,7 @@ use unit::state::State;
 use wire::refusal::{ACCEPTED, LOG_TOO_LONG, NO_ROOM};
 
 // What building and extending answer: 0 or the number of the refusal, and how many marks there are.
-#[derive(Drop)]
+#[derive(Clone, Copy)]
 pub struct Marked {
     pub code: u8,
     pub marks: usize,

@@ -14,7 +14,7 @@ use wire::refusal::{ACCEPTED, LOG_TOO_LONG};
 pub const NO_MARK: u8 = 19;
 
 // What a lookup answers: 0 or the number of the refusal, the state, how many records were stepped, and the offset reached in the log.
-#[derive(Drop)]
+#[derive(Clone, Copy)]
 pub struct Looked {
     pub code: u8,
     pub state: State,

@@ -23,7 +23,7 @@ pub const MARK_SIZE: usize = 47;
 pub const MARK_EVERY: usize = 256;
 
 // A point of a log that a mark leads to: 0 or the number of the refusal, the state there, and the offset.
-#[derive(Drop)]
+#[derive(Clone, Copy)]
 pub struct Begun {
     pub code: u8,
     pub state: State,

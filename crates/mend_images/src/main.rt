@@ -1,3 +1,4 @@
+#![tactic(auto)]
 // Images mended, each after its name: a sound one, one with every field bad, one whose places repeat a partner, one with marks that
 // are merely not 0, and one for each refusal.
 use libc::STDOUT_FILENO;

@@ -3,14 +3,14 @@ ghost use Rattle.std.specs.Prelude.{◌≡◌};
 ghost use Rattle.onsight.specs.Numbers.{area_number, mode_number, event_number};
 
 // Where the area of a profile lies.
-#[derive(Drop)]
+#[derive(Clone, Copy)]
 pub enum Area {
     Ahead,
     Entered,
 }
 
 // The mode when the profile comes: On-Sight, stand-by, post-trip, or another.
-#[derive(Drop)]
+#[derive(Clone, Copy)]
 pub enum Mode {
     OS,
     SB,
@@ -19,7 +19,7 @@ pub enum Mode {
 }
 
 // What the procedure is told.
-#[derive(Drop)]
+#[derive(Clone, Copy)]
 pub enum Event {
     // A profile with an On-Sight area.
     Profile { area: Area, mode: Mode },

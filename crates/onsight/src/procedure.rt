@@ -12,7 +12,7 @@ const ACCEPTED: u8 = 0;
 const NOT_TAKEN_HERE: u8 = 14;
 
 // The state of one procedure.
-#[derive(Drop)]
+#[derive(Clone, Copy)]
 pub enum State {
     Idle,
     Waiting,
@@ -23,14 +23,14 @@ pub enum State {
 }
 
 // A cell of the procedure's table: the event is not taken, or the state that it gives.
-#[derive(Drop)]
+#[derive(Clone, Copy)]
 pub(crate) enum Cell {
     No,
     To(State),
 }
 
 // What a step answers: 0 or the number of the refusal, and the next state.
-#[derive(Drop)]
+#[derive(Clone, Copy)]
 pub struct Answer {
     pub code: u8,
     pub state: State,

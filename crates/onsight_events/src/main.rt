@@ -1,3 +1,4 @@
+#![tactic(auto)]
 // A million events through the On-Sight procedure, for counting instructions: prints a sum of all that was answered.
 ghost use Rattle.std.specs.Prelude.{◌≤◌};
 

@@ -1,3 +1,4 @@
+#![tactic(auto)]
 // Prints the table and the diagram of docs/ONSIGHT.md: the On-Sight procedure is stepped in every state with every event. A column is one
 // event, or several that are answered alike; where they are not, their cell says so.
 use libc::STDOUT_FILENO;
@@ -12,7 +13,7 @@ const NOT_TAKEN_HERE: u8 = 14;
 const NOT_ALIKE: u8 = 255;
 
 // A column of the table.
-#[derive(Drop)]
+#[derive(Clone, Copy)]
 enum Column {
     Ahead,
     InOs,

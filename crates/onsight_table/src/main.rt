@@ -1,3 +1,4 @@
+#![tactic(auto)]
 // Runs the On-Sight procedure in every state with every event, and prints the whole table.
 use libc::STDOUT_FILENO;
 use onsight::event::{Area, Event, Mode};

@@ -34,7 +34,7 @@ const NUMBER: u8 = 1;
 const TRACKSIDE: u8 = 1;
 
 // An event: the kind of its record, and of a message the number and the version.
-#[derive(Drop)]
+#[derive(Clone, Copy)]
 pub(crate) struct Heard {
     pub(crate) kind: u8,
     pub(crate) message: u8,
@@ -42,7 +42,7 @@ pub(crate) struct Heard {
 }
 
 // What a step answers: the code, the numbers of its first two actions, 0 for none, and the partner's place.
-#[derive(Drop)]
+#[derive(Clone, Copy)]
 pub(crate) struct Said {
     pub(crate) code: u8,
     pub(crate) first: u8,
@@ -51,7 +51,7 @@ pub(crate) struct Said {
 }
 
 // What is answered to an event in a phase: with tries left, with none left, and with the other version.
-#[derive(Drop)]
+#[derive(Clone, Copy)]
 pub(crate) struct Cell {
     pub(crate) early: Said,
     pub(crate) late: Said,

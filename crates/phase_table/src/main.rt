@@ -1,3 +1,4 @@
+#![tactic(auto)]
 // Prints the phase table and the diagram of docs/PHASES.md. The box is stepped on the record of each event, with its partner in each
 // phase: with the first of n tries used and with all of them, with a version that is supported and one that is not. All that is printed
 // beside the words for phases and events is told from the answers:

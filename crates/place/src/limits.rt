@@ -1,7 +1,7 @@
 // What the box supports, and how often it tries.
 
 // The lowest and the highest supported version X, and the number of tries at anything.
-#[derive(Drop)]
+#[derive(Clone, Copy)]
 pub struct Limits {
     pub lowest: u8,
     pub highest: u8,

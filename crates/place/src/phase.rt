@@ -8,7 +8,7 @@ use crate::limits::Limits;
 use wire::join::and;
 
 // The phase of a held place, with the tries used; an open one has none.
-#[derive(Drop)]
+#[derive(Clone, Copy)]
 pub enum Phase {
     Connecting(u8),
     Contacting(u8),

@@ -10,14 +10,14 @@ use record::partner::Partner;
 use wire::join::and;
 
 // Who made the connection: the box, or the partner by a call.
-#[derive(Drop)]
+#[derive(Clone, Copy)]
 pub enum Direction {
     Outgoing,
     Incoming,
 }
 
 // Free, or a partner with its direction and phase.
-#[derive(Drop)]
+#[derive(Clone, Copy)]
 pub enum Holding {
     Free,
     Held {
@@ -28,7 +28,7 @@ pub enum Holding {
 }
 
 // One of the four places.
-#[derive(Drop)]
+#[derive(Clone, Copy)]
 pub struct Place {
     pub holding: Holding,
 }

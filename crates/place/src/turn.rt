@@ -20,7 +20,7 @@ const VERSIONS_OF_X: u8 = 16;
 
 // What an event or a closing makes of a place: it stays as it is; it is released, with its one action; or it comes into another
 // phase, with no, one or two actions. An event that lets a place stay is refused.
-#[derive(Drop)]
+#[derive(Clone, Copy)]
 pub enum Turn {
     Stays,
     Released,
@@ -30,7 +30,7 @@ pub enum Turn {
 }
 
 // A place after a turn: whether the event was taken, the numbers of the turn's actions, 0 for none, and the place.
-#[derive(Drop)]
+#[derive(Clone, Copy)]
 pub struct Turned {
     pub taken: bool,
     pub first: u8,
@@ -39,7 +39,7 @@ pub struct Turned {
 }
 
 // Which places a closing is for: every one, the sessions that an RBC's order ends, or none.
-#[derive(Drop)]
+#[derive(Clone, Copy)]
 pub enum Closing {
     Every,
     Sessions,

@@ -2,7 +2,7 @@
 use crate::partner::Partner;
 
 // The six events that a phase takes: the columns of the phase table.
-#[derive(Drop)]
+#[derive(Clone, Copy)]
 pub enum PartnerEvent {
     Drop,
     Up,
@@ -15,7 +15,7 @@ pub enum PartnerEvent {
 }
 
 // What an order is given for.
-#[derive(Drop)]
+#[derive(Clone, Copy)]
 pub enum Cause {
     StartOfMission,
     Trackside,
@@ -26,7 +26,7 @@ pub enum Cause {
 
 // An event that a record means. The reason of an end all changes nothing and is not kept. The level and the mission are words of 64
 // bits: they then do not lie across a partner's bytes, and the compiled code keeps an event in registers.
-#[derive(Drop)]
+#[derive(Clone, Copy)]
 pub enum Event {
     Level {
         level: u64,
@@ -56,7 +56,7 @@ pub enum Event {
 }
 
 // What reading a record answers: its event, or the number of the refusal.
-#[derive(Drop)]
+#[derive(Clone, Copy)]
 pub enum Reading {
     Meant(Event),
     Refused(u8),

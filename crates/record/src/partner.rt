@@ -18,7 +18,7 @@ const SIX_BITS: u8 = 63;
 const EIGHT_BITS: u8 = 255;
 
 // A partner: its type (here `kind`, since `type` is a word of the language) and the three bytes of its number, as on the wire.
-#[derive(Drop)]
+#[derive(Clone, Copy)]
 pub struct Partner {
     pub kind: u8,
     pub high: u8,

@@ -19,7 +19,7 @@ pub const KIND_UNKNOWN: u8 = 3;
 pub const LONGEST_LOG: usize = 1_048_576;
 
 // What stands at the front of a log: a whole record, its length and what it means; or the stop; or the refusal of what is too long.
-#[derive(Drop)]
+#[derive(Clone, Copy)]
 pub enum Taken {
     Whole { length: usize, reading: Reading },
     Stopped(u8),
@@ -27,7 +27,7 @@ pub enum Taken {
 }
 
 // What stands at a place of a log: a whole record, its length and what it means; or the stop.
-#[derive(Drop)]
+#[derive(Clone, Copy)]
 pub enum Front {
     Next { length: usize, reading: Reading },
     Stop(u8),

@@ -20,7 +20,7 @@ const JUDGE: u8 = 1;
 const PRODUCE: u8 = 2;
 
 // What the vectors of a file are of.
-#[derive(Drop)]
+#[derive(Clone, Copy)]
 pub(crate) enum Subject {
     Sheets,
     Marks,
@@ -29,7 +29,7 @@ pub(crate) enum Subject {
 }
 
 // The count so far: what the vectors are of, how many were tried and differ; and whether the file may hold more.
-#[derive(Drop)]
+#[derive(Clone, Copy)]
 struct Progress {
     subject: Subject,
     tried: u64,

@@ -1,3 +1,4 @@
+#![tactic(auto)]
 // The vectors of the model of sheets, of marks, of the shunter and of sets, through the proved code; then a few of them, good and with each
 // compared field wrong by itself (independent-model/judge_vectors.c, marks_vectors.c, shunter_vectors.c, sets_vectors.c), so that these
 // have to be named and no other.

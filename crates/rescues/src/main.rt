@@ -1,3 +1,4 @@
+#![tactic(auto)]
 // Rescues the images on standard input, 42 bytes each, one after the other and in place; prints how many they were, how many were refused
 // and how many fields were mended, and then the images' bytes as they are. Of more than 1,048,576 bytes it reads as many.
 use image::layout::SIZE_A2;
@@ -7,7 +8,7 @@ use std::num::wrapping_add_u64;
 use wire::refusal::ACCEPTED;
 
 // The walk so far: the offset reached, the images rescued, refused and mended fields, and whether a whole image may follow.
-#[derive(Drop)]
+#[derive(Clone, Copy)]
 struct Walk {
     at: usize,
     images: u64,

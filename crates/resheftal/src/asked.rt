@@ -39,7 +39,7 @@ pub(crate) const NO_RECORD: u8 = 8;
 // A number grows no longer from here on: no log has so many records.
 const LARGE: usize = 1_000_000_000;
 
-#[derive(Drop)]
+#[derive(Clone, Copy)]
 pub(crate) enum Command {
     Judge,
     Produce,
@@ -52,7 +52,7 @@ pub(crate) enum Command {
 // What is asked for: by which command; the numbers of the words that name the file, the output and the marks, 0 where none does; the number
 // of a record, once it is given; whether marks are extended; what the box is started with; whether help is asked for; what is wrong, and
 // the word that was reached; and what the next word is.
-#[derive(Drop)]
+#[derive(Clone, Copy)]
 pub(crate) struct Asked {
     pub(crate) command: Command,
     pub(crate) file: usize,
@@ -69,7 +69,7 @@ pub(crate) struct Asked {
 }
 
 // A number of decimal digits, or that a word is none.
-#[derive(Drop)]
+#[derive(Clone, Copy)]
 enum Number {
     Is(usize),
     No,

@@ -4,14 +4,14 @@ use libc::STDIN_FILENO;
 use tools::text::{put, put_number};
 
 // What reading a file gave: so many bytes, or an error, which is told.
-#[derive(Drop)]
+#[derive(Clone, Copy)]
 pub(crate) enum Got {
     Bytes(usize),
     Failed,
 }
 
 // What stands under the name of an output: nothing, so many bytes, or an error, which is told.
-#[derive(Drop)]
+#[derive(Clone, Copy)]
 pub(crate) enum Held {
     Nothing,
     Bytes(usize),
@@ -19,7 +19,7 @@ pub(crate) enum Held {
 }
 
 // How far a file is read: the bytes so far, whether more may follow, and whether a read failed.
-#[derive(Drop)]
+#[derive(Clone, Copy)]
 struct Reached {
     at: usize,
     more: bool,

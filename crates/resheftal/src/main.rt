@@ -1,3 +1,4 @@
+#![tactic(auto)]
 // One tool over the box. A program of this language ends with status 0, so this one writes its status as a digit to descriptor 3, and the
 // script `resheftal` ends with it.
 mod asked;

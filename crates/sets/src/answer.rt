@@ -15,7 +15,7 @@ use unit::answer::{Action, Actions};
 use wire::refusal::ACCEPTED;
 
 // What a step answers: 0 or the number of the refusal, the next state, the actions, and the number of the partner's phase if that is said.
-#[derive(Drop)]
+#[derive(Clone, Copy)]
 pub struct SetAnswer {
     pub code: u8,
     pub state: SetState,
@@ -24,7 +24,7 @@ pub struct SetAnswer {
 }
 
 // What a step on bytes answers: as a step, with how many actions were written in place of the actions.
-#[derive(Drop)]
+#[derive(Clone, Copy)]
 pub struct SetStepped {
     pub code: u8,
     pub state: SetState,

@@ -1,3 +1,4 @@
+#![tactic(auto)]
 // The second engine: six sets of partners in place of four places.
 pub mod answer;
 pub mod bytes;

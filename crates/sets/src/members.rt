@@ -18,7 +18,7 @@ use wire::join::and;
 pub const MOST_MEMBERS: usize = 4;
 
 // A member of a set: its partner, the tries used, and who made the connection.
-#[derive(Drop)]
+#[derive(Clone, Copy)]
 pub struct Member {
     pub partner: Partner,
     pub tries: u8,
@@ -26,7 +26,7 @@ pub struct Member {
 }
 
 // A set: its members, so many of them; the items after them are zeros.
-#[derive(Drop)]
+#[derive(Clone, Copy)]
 pub struct Members {
     pub items: [Member; 4],
     pub count: usize,

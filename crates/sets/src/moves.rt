@@ -18,7 +18,7 @@ const VERSIONS_OF_X: u8 = 16;
 
 // What an event makes of a member: it stays where it is, and the event is refused; it leaves, with its one action; or it enters a set with
 // so many tries, with no, one or two actions.
-#[derive(Drop)]
+#[derive(Clone, Copy)]
 pub enum Move {
     Stays,
     Leaves,

@@ -10,7 +10,7 @@ use wire::join::and;
 
 // The six sets: of those that are called, that are contacted, that are in session by their own call or by ours, whose connection is lost,
 // and whose session is being terminated.
-#[derive(Drop)]
+#[derive(Clone, Copy)]
 pub enum SetName {
     Calling,
     Contacted,
@@ -21,7 +21,7 @@ pub enum SetName {
 }
 
 // The set that a partner stands in, or none.
-#[derive(Drop)]
+#[derive(Clone, Copy)]
 pub enum Whereabouts {
     Within(SetName),
     Nowhere,

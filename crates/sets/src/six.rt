@@ -11,7 +11,7 @@ use record::partner::Partner;
 use wire::join::and;
 
 // The six sets.
-#[derive(Drop)]
+#[derive(Clone, Copy)]
 pub struct SixSets {
     pub calling: Members,
     pub contacted: Members,

@@ -9,7 +9,7 @@ use unit::state::{Marks, Train, limits_ok, marks_ok, train_ok};
 use wire::join::and;
 
 // All that the engine remembers: the box's fields, with six sets of partners in place of four places.
-#[derive(Drop)]
+#[derive(Clone, Copy)]
 pub struct SetState {
     pub limits: Limits,
     pub train: Train,

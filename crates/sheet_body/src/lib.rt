@@ -1,3 +1,4 @@
+#![tactic(auto)]
 // The body of `sheet` and `sheets`: a log from a file, its sheet to standard output.
 ghost use Rattle.std.specs.Prelude.{◌≤◌, length};
 ghost use Rattle.text.specs.Sheets.{sheet_room};

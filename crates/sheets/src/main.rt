@@ -1,3 +1,4 @@
+#![tactic(auto)]
 // The sheets of six logs, each after its name: empty, 4,096 bytes, one byte more, 4,096 records, a short record at the end, an
 // unknown kind.
 use libc::STDOUT_FILENO;

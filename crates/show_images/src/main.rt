@@ -1,3 +1,4 @@
+#![tactic(auto)]
 // Images in words, each after its name: of an old box, one that an old box cannot read for its tries, one that holds all that a box
 // can, and one for each refusal.
 use libc::STDOUT_FILENO;

@@ -13,7 +13,7 @@ use unit::state::PLACES;
 
 // What a step answers: 0 or the number of the refusal, the next state, the actions that go out, and where the partner stands if that is
 // said.
-#[derive(Drop)]
+#[derive(Clone, Copy)]
 pub struct Shunted {
     pub code: u8,
     pub shunter: Shunter,
@@ -22,7 +22,7 @@ pub struct Shunted {
 }
 
 // What a step on bytes answers: as a step, with how many actions were written in place of the actions.
-#[derive(Drop)]
+#[derive(Clone, Copy)]
 pub struct Sent {
     pub code: u8,
     pub shunter: Shunter,

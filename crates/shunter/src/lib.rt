@@ -1,3 +1,4 @@
+#![tactic(auto)]
 // The shunter: two modems and a queue over the box, which it knows by its doors alone.
 pub mod answer;
 pub mod bytes;

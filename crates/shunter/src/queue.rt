@@ -11,7 +11,7 @@ pub const MODEMS: usize = 2;
 pub const NO_PLACE: usize = 4;
 
 // The numbers of the places that wait, the one that waits longest first.
-#[derive(Drop)]
+#[derive(Clone, Copy)]
 pub struct Queue {
     pub first: usize,
     pub second: usize,

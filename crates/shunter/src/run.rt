@@ -17,7 +17,7 @@ use unit::run::Totals;
 use wire::refusal::{ACCEPTED, LOG_TOO_LONG, NOT_SOUND};
 
 // A run so far: the shunter, the offset reached, the records read and refused, and how often each action went out.
-#[derive(Drop)]
+#[derive(Clone, Copy)]
 pub struct ShunterTally {
     pub shunter: Shunter,
     pub offset: usize,
@@ -27,7 +27,7 @@ pub struct ShunterTally {
 }
 
 // What a run answers: 0 or the number of the refusal, the stop, and the run as far as it came.
-#[derive(Drop)]
+#[derive(Clone, Copy)]
 pub struct ShunterReport {
     pub code: u8,
     pub stop: u8,

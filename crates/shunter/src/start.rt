@@ -8,7 +8,7 @@ use place::limits::Limits;
 use unit::start::cold_start;
 
 // What a cold start answers: 0 or 13, and the shunter.
-#[derive(Drop)]
+#[derive(Clone, Copy)]
 pub struct Fitted {
     pub code: u8,
     pub shunter: Shunter,

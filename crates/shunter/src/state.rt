@@ -15,7 +15,7 @@ use unit::state::State;
 use wire::join::{and, negated, or};
 
 // All that the shunter remembers.
-#[derive(Drop)]
+#[derive(Clone, Copy)]
 pub struct Shunter {
     pub state: State,
     pub queue: Queue,

@@ -29,7 +29,7 @@ pub const MODEM_MISSING: u8 = 17;
 pub const PLACE_WAITS: u8 = 18;
 
 // Actions with those of the served behind them, and who goes on waiting.
-#[derive(Drop)]
+#[derive(Clone, Copy)]
 struct Served {
     actions: Actions,
     queue: Queue,

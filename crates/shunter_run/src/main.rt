@@ -1,3 +1,4 @@
+#![tactic(auto)]
 // Prints what a run of the shunter over the log on standard input answers, from a cold start with X from 1 to 2, three tries and a budget
 // that no log uses up.
 use libc::{STDIN_FILENO, STDOUT_FILENO};

@@ -1,3 +1,4 @@
+#![tactic(auto)]
 // Steps of the shunter on bytes through the log on standard input, with one buffer of 20 bytes for all records, and prints the records,
 // those refused, the actions, and then the buffer's bytes as they are. Of a log over 1,048,576 bytes it reads as many.
 use libc::{STDIN_FILENO, STDOUT_FILENO};
@@ -9,7 +10,7 @@ use std::num::wrapping_add_u64;
 use wire::refusal::ACCEPTED;
 
 // The walk so far: the shunter, the offset reached, the records read and refused, the actions, and whether a whole record may follow.
-#[derive(Drop)]
+#[derive(Clone, Copy)]
 struct Walk {
     shunter: Shunter,
     at: usize,

@@ -1,3 +1,4 @@
+#![tactic(auto)]
 // The text of a sheet, put into a lent buffer: numbers in decimal, the line of a record, the last line.
 // Each function `put_..` puts its text at a place of the buffer, where it has room, and answers the place after it; other bytes stay.
 ghost use Rattle.std.specs.Prelude.{◌≡◌, ◌+◌, ◌≤◌, [], ◌∷◌, length, take};

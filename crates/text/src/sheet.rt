@@ -24,7 +24,7 @@ const LOWEST_X: u8 = 1;
 const HIGHEST_X: u8 = 2;
 
 // A sheet so far: the state, the offset reached in the input, the records told, and the bytes written.
-#[derive(Drop)]
+#[derive(Clone, Copy)]
 struct Page {
     state: State,
     at: usize,

@@ -28,7 +28,7 @@ use wire::refusal::ACCEPTED;
 // How far a log is told: how long the last piece is, whether another follows, and whether the log is taken and the engines do not differ;
 // the states of both at the start and after the records that are told, how many these are, where they end, at how many of them the engines
 // differ, and the first of these.
-#[derive(Drop)]
+#[derive(Clone, Copy)]
 pub struct Comparing {
     pub length: usize,
     pub more: bool,

@@ -18,7 +18,7 @@ use wire::join::{and, negated, or};
 
 // What differs: the refusal; the phase that a refusal tells; who stands where, and with which direction; the tries of those who stand
 // alike; the limits; level or mission; the marks; the last known RBC; how many of each action there are for each partner.
-#[derive(Drop)]
+#[derive(Clone, Copy)]
 pub struct Differences {
     pub refusal: bool,
     pub phase: bool,
@@ -45,7 +45,7 @@ const LOST: u8 = 5;
 const TERMINATING: u8 = 6;
 
 // One who stands in a set: the number of the set, the partner, the number of its direction, the tries.
-#[derive(Drop)]
+#[derive(Clone, Copy)]
 struct Entry {
     set: u8,
     partner: Partner,

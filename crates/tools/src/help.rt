@@ -2,7 +2,7 @@
 use crate::text::put;
 
 // What help is asked for: all commands, or one.
-#[derive(Drop)]
+#[derive(Clone, Copy)]
 pub enum Topic {
     Commands,
     Judge,

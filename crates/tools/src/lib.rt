@@ -1,3 +1,4 @@
+#![tactic(auto)]
 // What people read: pure functions from bytes to text, written into a lent buffer. The program `resheftal` reads, calls them and writes.
 pub mod both;
 pub mod compared;

@@ -7,7 +7,7 @@ use std::num::wrapping_add_usize;
 use wire::byte::byte_at;
 
 // So many records of a log, where they end, and the stop there; another record may follow where it is the budget's.
-#[derive(Drop)]
+#[derive(Clone, Copy)]
 struct Extent {
     records: usize,
     end: usize,

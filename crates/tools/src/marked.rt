@@ -19,7 +19,7 @@ pub const MOST_MARKS: usize = LONGEST_LOG / MARK_EVERY;
 pub const MARKS_ROOM: usize = MOST_MARKS * MARK_SIZE;
 
 // What was told of marks that were to be made: how long the text is, and how many bytes the marks have, 0 of refused ones.
-#[derive(Drop)]
+#[derive(Clone, Copy)]
 pub struct Marking {
     pub length: usize,
     pub bytes: usize,

@@ -25,7 +25,7 @@ use wire::refusal::ACCEPTED;
 
 // How far a log is told: how long the last piece is, whether another follows, and whether the log is taken; the shunter at its start and
 // after the records that are told, how many these are, and where they end.
-#[derive(Drop)]
+#[derive(Clone, Copy)]
 pub struct Telling {
     pub length: usize,
     pub more: bool,

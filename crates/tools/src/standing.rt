@@ -139,7 +139,7 @@ pub(crate) fn put_lines(out: &mut [u8], at: usize, sheet: &[u8], from: usize, en
 }
 
 // The last event records before an offset: where the last but one and the last begin, and how many records stand behind the last.
-#[derive(Drop)]
+#[derive(Clone, Copy)]
 pub(crate) struct Entries {
     pub(crate) before: usize,
     pub(crate) last: usize,

@@ -16,7 +16,7 @@ use wire::join::and;
 use wire::refusal::{ACCEPTED, NOT_SOUND};
 
 // What is asked for: the number of a record, the mark that it calls for (0 is the start), and how many marks there are.
-#[derive(Drop)]
+#[derive(Clone, Copy)]
 struct Called {
     record: usize,
     mark: usize,

@@ -7,7 +7,7 @@ use wire::byte::byte_at;
 pub const TEXT_ROOM: usize = 4096;
 
 // What was told: how long the text is, and whether it says that the thing is as it must be, or is found.
-#[derive(Drop)]
+#[derive(Clone, Copy)]
 pub struct Told {
     pub length: usize,
     pub accepted: bool,

@@ -15,21 +15,21 @@ use wire::refusal::ACCEPTED;
 pub const MOST_ACTIONS: usize = 4;
 
 // One action: its number and the partner that it is for.
-#[derive(Drop)]
+#[derive(Clone, Copy)]
 pub struct Action {
     pub number: u8,
     pub partner: Partner,
 }
 
 // The actions of one step, in their order; the items from `count` on are zeros.
-#[derive(Drop)]
+#[derive(Clone, Copy)]
 pub struct Actions {
     pub items: [Action; 4],
     pub count: usize,
 }
 
 // What a step answers: 0 or the number of the refusal, the next state, the actions, and where the partner stands if that is said.
-#[derive(Drop)]
+#[derive(Clone, Copy)]
 pub struct Answer {
     pub code: u8,
     pub state: State,
@@ -38,7 +38,7 @@ pub struct Answer {
 }
 
 // What a step on bytes answers: as a step, with how many actions were written in place of the actions.
-#[derive(Drop)]
+#[derive(Clone, Copy)]
 pub struct Stepped {
     pub code: u8,
     pub state: State,

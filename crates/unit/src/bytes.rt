@@ -59,7 +59,7 @@ fn put_number(s: &mut [u8], count: usize, partner: Partner, number: u8) -> usize
 }
 
 // Places that are closed, and how many actions were written.
-#[derive(Drop)]
+#[derive(Clone, Copy)]
 struct Shut {
     places: [Place; 4],
     count: usize,

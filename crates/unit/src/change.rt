@@ -30,7 +30,7 @@ use wire::refusal::{
 // A step before it is carried out: 0 or the number of the refusal; the train and the marks after it; which places are closed;
 // then the place that is set, if its number is one of the four; the partner and the numbers of the actions that are sent last, 0 for
 // none; for a refusal, the place and phase that it says; and the RBC that is then the last known.
-#[derive(Drop)]
+#[derive(Clone, Copy)]
 pub(crate) struct Change {
     pub code: u8,
     pub train: Train,

@@ -8,7 +8,7 @@ use record::partner::{Partner, RBC};
 use wire::join::{and, negated};
 
 // No RBC, or the three number bytes of one.
-#[derive(Drop)]
+#[derive(Clone, Copy)]
 pub enum Last {
     Unknown,
     Known { high: u8, middle: u8, low: u8 },

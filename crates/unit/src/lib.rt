@@ -1,3 +1,4 @@
+#![tactic(auto)]
 // The box: its state, one step of it, and the run over a log.
 pub mod answer;
 pub mod bytes;

@@ -20,7 +20,7 @@ use record::take::{BUDGET_USED, Front, LONGEST_LOG, NOTHING_LEFT, front_at};
 use wire::refusal::{ACCEPTED, LOG_TOO_LONG, NOT_SOUND};
 
 // How often each of the six actions was sent.
-#[derive(Drop)]
+#[derive(Clone, Copy)]
 pub struct Totals {
     pub request: u32,
     pub release: u32,
@@ -31,7 +31,7 @@ pub struct Totals {
 }
 
 // A run so far: the state, the offset reached, the records read and refused, and the totals.
-#[derive(Drop)]
+#[derive(Clone, Copy)]
 pub struct Tally {
     pub state: State,
     pub offset: usize,
@@ -41,7 +41,7 @@ pub struct Tally {
 }
 
 // What a run answers: 0 or the number of the refusal, the stop, and the run as far as it came.
-#[derive(Drop)]
+#[derive(Clone, Copy)]
 pub struct Report {
     pub code: u8,
     pub stop: u8,
@@ -130,7 +130,7 @@ impl Tally {
 
 // A run so far without its places. They stand apart: an array that is stored into by a changing number is kept in memory, and so is all
 // that it lies in.
-#[derive(Drop)]
+#[derive(Clone, Copy)]
 struct Rest {
     limits: Limits,
     train: Train,

@@ -9,7 +9,7 @@ use place::place::Place;
 use record::partner::Partner;
 
 // What a search over the places answers: the partner's place and phase, else the lowest free place, else that all are taken.
-#[derive(Drop)]
+#[derive(Clone, Copy)]
 pub enum Found {
     At { place: usize, phase: Phase },
     Vacant(usize),
@@ -17,7 +17,7 @@ pub enum Found {
 }
 
 // Where a partner stands: the number of its place and that of its phase. In every answer but refusal 5 and a partner's 7: 4 and 0.
-#[derive(Drop)]
+#[derive(Clone, Copy)]
 pub struct Standing {
     pub place: usize,
     pub phase: u8,

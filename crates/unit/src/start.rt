@@ -9,7 +9,7 @@ use place::place::{Holding, Place};
 use wire::refusal::{ACCEPTED, BAD_LIMITS};
 
 // What a cold start or a reading of an image answers: 0 or the number of the refusal, and the state.
-#[derive(Drop)]
+#[derive(Clone, Copy)]
 pub struct Started {
     pub code: u8,
     pub state: State,

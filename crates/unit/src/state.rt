@@ -23,14 +23,14 @@ const HIGHEST_MISSION: u64 = record::read::HIGHEST_MISSION as u64;
 pub const MISSION_ENDED: u64 = 0;
 
 // The level and the mission, as wide as in an event.
-#[derive(Drop)]
+#[derive(Clone, Copy)]
 pub struct Train {
     pub level: u64,
     pub mission: u64,
 }
 
 // The four marks: inside a radio hole, mode change to report, manual level change, hole end.
-#[derive(Drop)]
+#[derive(Clone, Copy)]
 pub struct Marks {
     pub inside: bool,
     pub mode: bool,
@@ -39,7 +39,7 @@ pub struct Marks {
 }
 
 // All that the box remembers.
-#[derive(Drop)]
+#[derive(Clone, Copy)]
 pub struct State {
     pub limits: Limits,
     pub train: Train,

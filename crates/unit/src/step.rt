@@ -25,7 +25,7 @@ pub(crate) fn closes_any(which: Closing) -> bool
 }
 
 // Places that are closed, and for each of them the number of the action that is sent to its partner, 0 for none.
-#[derive(Drop)]
+#[derive(Clone, Copy)]
 pub(crate) struct Closed {
     pub places: [Place; 4],
     pub numbers: [u8; 4],

@@ -9,7 +9,7 @@ use crate::vector::{group_of, holds};
 const LONGEST: usize = 8192;
 
 // The count so far, and whether the file may hold more.
-#[derive(Drop)]
+#[derive(Clone, Copy)]
 struct Progress {
     tally: Tally,
     more: bool,

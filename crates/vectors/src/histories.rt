@@ -13,7 +13,7 @@ const COUNT_AT: usize = 3;
 const RECORDS_AT: usize = 5;
 
 // A history so far: whether all held, the state, and where the next record stands.
-#[derive(Drop)]
+#[derive(Clone, Copy)]
 struct Walk {
     holds: bool,
     state: State,

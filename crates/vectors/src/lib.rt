@@ -1,3 +1,4 @@
+#![tactic(auto)]
 // Vectors of the independent model: each is judged against the proved code, and a file of them is counted and reported.
 pub mod expected;
 pub mod file;

@@ -92,7 +92,7 @@ fn mixed(s: &[u8], mix: usize) -> State {
 }
 
 // Mixes so far: whether all held, and where the next expectation stands.
-#[derive(Drop)]
+#[derive(Clone, Copy)]
 struct Row {
     holds: bool,
     at: usize,

@@ -11,7 +11,7 @@ const ROWS: usize = 14;
 const MOST_NAMED: u64 = 1000;
 
 // Vectors judged and failed, of each group and in all; row 0 is for vectors of no group.
-#[derive(Drop)]
+#[derive(Clone, Copy)]
 pub struct Tally {
     judged: [u64; 14],
     failed: [u64; 14],

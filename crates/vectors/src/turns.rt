@@ -8,7 +8,7 @@ use wire::join::{and, or};
 use wire::refusal::{ACCEPTED, LOG_TOO_LONG};
 
 // A run so far: the state, the offset reached, the records read and refused, the stop, and whether it goes on.
-#[derive(Drop)]
+#[derive(Clone, Copy)]
 struct Turns {
     state: State,
     at: usize,

@@ -1,3 +1,4 @@
+#![tactic(auto)]
 // All vectors of the independent model, judged; then a few of each group, good and with each compared field wrong by itself
 // (independent-model/spoil.c), so that the judge has to name these and no other; then an image, held to bytes that were written by hand.
 mod mixed;
