@@ -1,5 +1,5 @@
 -- The actions of the places passed stand in the array.
-use Rattle.std.proofs.Common.{◌≡◌, ap, ap₂, ◌∙◌, ◌≤◌, ◌<◌, arith, length, take, get_or}
+use Rattle.std.proofs.Common.{ap, ap₂, ◌∙◌, ◌<◌, arith, length, take, get_or}
 use Rattle.unit.specs.Forms.{listed}
 use Rattle.unit.specs.Changes.{given, push_all, sent_for}
 use Rattle.unit.proofs.Rules.{send-listed}
