@@ -1,6 +1,6 @@
 -- The places passed are mended.
-use Rattle.std.proofs.Common.{◌≡◌, Bool, ◌&&◌, List, ℕ, ◌+◌, ◌*◌, length, drop, refl, ap, subst, ◌∙◌, arith}
-use Rattle.unit.specs.States.{place_count, absent_from}
+use Rattle.std.proofs.Common.{◌≡◌, Bool, ◌&&◌, List, ℕ, ◌+◌, length, drop, ap, subst, ◌∙◌, arith}
+use Rattle.unit.specs.States.{absent_from}
 use Rattle.image.specs.Images.{size_a2, place_size, place_in, places_in, state_in}
 use Rattle.image.specs.Bodies.{places_at}
 use Rattle.image.specs.Rescue.{is_place_of}
@@ -9,11 +9,6 @@ use Rattle.image.proofs.Fields.{cleared-long}
 use Rattle.image.proofs.EachField.{place-next}
 use Rattle.image.proofs.rescue.mend_places.Goals as goal
 use Rattle.image.proofs.rescue.mend_places.Goals.{After-mend_place-listed}
-
-pub loop-i-init : goal.loop-i-init
-loop-i-init c =
-    let pre = c.requires in
-    (omega arith, (refl, (pre.0, (pre.1.0, (pre.1.1, (λ old long own so_far. so_far))))))
 
 -- where a place was mended
 module _ (c : After-mend_place-listed) where
@@ -61,12 +56,3 @@ loop-i-preserved c =
         ),
       ),
     )
-
-pub returns : goal.returns
-returns c old long own so_far =
-    let passed = c.loop-i in
-    let all : passed.i ≡ place_count = omega (arith, passed.invariant.0, c.loop-i-test.false) in
-    let end : passed.at ≡ 37 = omega (arith, passed.invariant.1.0, all) in
-    subst (λ k. MendedTo old 10 k passed.image passed.fields passed.listed) end
-    (subst (λ k. MendedTo old (6 + k) passed.at passed.image passed.fields passed.listed) all
-    (passed.invariant.1.1.1.1.1 old long own so_far))

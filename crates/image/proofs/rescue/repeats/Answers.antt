@@ -3,13 +3,9 @@ use Rattle.std.proofs.Common.{◌≡◌, Bool, ◌&&◌, not, eqb, List, ℕ, dr
 use Rattle.wire.specs.Bytes.{byte}
 use Rattle.record.specs.Partners.{partner_at, same_partner}
 use Rattle.record.specs.declared.partner.Partner.{Partner}
-use Rattle.image.proofs.Keeping.{lower-start, lower-end, lower-same, lower-other}
+use Rattle.image.proofs.Keeping.{lower-end, lower-same, lower-other}
 use Rattle.image.proofs.rescue.repeats.Goals as goal
 use Rattle.image.proofs.rescue.repeats.Goals.{After-and}
-
-pub loop-lower-init : goal.loop-lower-init
-loop-lower-init c i own =
-    lower-start (partner_at 3 (drop c.args.at c.args.image.now)) c.args.image.now i c.args.at own
 
 -- a lower place that was asked
 module _ (c : After-and) where

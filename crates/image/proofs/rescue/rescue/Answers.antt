@@ -43,11 +43,6 @@ module _ (c : After-limits_ok) where
   shown : (b : Bool) → c.limits_ok.result ≡ b → limits_ok (state_in (drop 1 old)).limits ≡ b
   shown b test = ap limits_ok (sym limits) ∙ sym c.limits_ok.ensures ∙ test
 
-pub mend-requires : goal.mend-requires
-mend-requires c =
-    let tested = (goal.at.mend-requires c).After-limits_ok in
-    (is_whole tested, limits tested)
-
 pub returns-then-limits_ok : goal.returns-then-limits_ok
 returns-then-limits_ok c =
     let tested = (goal.at.returns-then-limits_ok c).After-limits_ok in
