@@ -1,5 +1,5 @@
 -- The bytes passed are copied; three tries and no RBC follow them.
-use Rattle.std.proofs.Common.{◌≡◌, sym, ap, ◌∙◌, ◌≤◌, List, ℕ, length, get_or, set, arith}
+use Rattle.std.proofs.Common.{◌≡◌, ap, ◌∙◌, ◌≤◌, List, ℕ, length, get_or, set, arith}
 use lib.ListN.{length-set}
 use Rattle.place.specs.Places.{fleet_tries}
 use Rattle.image.specs.Bodies.{read_body}

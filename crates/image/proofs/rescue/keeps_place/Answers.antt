@@ -1,9 +1,8 @@
 -- By the tests: these are its bytes, it is free, it is sound by itself, no lower place holds its partner.
-use Rattle.std.proofs.Common.{◌≡◌, Bool, not, List, ℕ, ◌+◌, take, drop, sym, ap, ◌∙◌}
+use Rattle.std.proofs.Common.{◌≡◌, Bool, not, List, ℕ, ◌+◌, drop, sym, ap, ◌∙◌}
 use Rattle.wire.specs.Bytes.{byte}
 use Rattle.place.specs.Places.{seat, place_ok}
-use Rattle.place.specs.declared.place.Place.{Place}
-use Rattle.image.specs.Images.{place_size, place_bytes, phase_of, direction_of, place_in, places_in, same_bytes}
+use Rattle.image.specs.Images.{phase_of, direction_of, place_in, places_in}
 use Rattle.image.specs.Bodies.{places_at}
 use Rattle.image.proofs.Keeping.{held-here, kept_free, kept-held, kept-unsound}
 use Rattle.image.proofs.rescue.keeps_place.Goals as goal

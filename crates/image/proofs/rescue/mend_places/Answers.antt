@@ -1,5 +1,5 @@
 -- The places passed are mended.
-use Rattle.std.proofs.Common.{◌≡◌, Bool, ◌&&◌, List, ℕ, ◌+◌, ◌*◌, length, drop, refl, ap, subst, ◌∙◌, arith}
+use Rattle.std.proofs.Common.{◌≡◌, Bool, ◌&&◌, List, ℕ, ◌+◌, length, drop, refl, ap, subst, ◌∙◌, arith}
 use Rattle.unit.specs.States.{place_count, absent_from}
 use Rattle.image.specs.Images.{size_a2, place_size, place_in, places_in, state_in}
 use Rattle.image.specs.Bodies.{places_at}
