@@ -1,5 +1,5 @@
 -- The bytes passed are copied; three tries and no RBC follow them.
-use Rattle.std.proofs.Common.{◌≡◌, refl, sym, ap, ◌∙◌, ◌≤◌, List, ℕ, length, get_or, set, arith}
+use Rattle.std.proofs.Common.{◌≡◌, ap, ◌∙◌, ◌≤◌, List, ℕ, length, get_or, set, arith}
 use lib.ListN.{length-set}
 use Rattle.place.specs.Places.{fleet_tries}
 use Rattle.image.specs.Bodies.{read_body}
@@ -10,9 +10,6 @@ use Rattle.image.proofs.read.read_body_a1.Goals as goal
 copied-length : (body whole : List ℕ) (i : ℕ) → length body ≡ 36 → i ≤ 36 → whole ≡ CopiedTo body i → length (set whole 36 fleet_tries) ≡ 41
 copied-length body whole i long most copied =
     length-set whole 36 fleet_tries ∙ ap length copied ∙ copy-length body long i most
-
-pub loop-i-init : goal.loop-i-init
-loop-i-init c = (omega arith, refl)
 
 pub loop-i-preserved : goal.loop-i-preserved
 loop-i-preserved c =

@@ -1,5 +1,5 @@
 -- The 37 bytes that both kinds have, then the tail.
-use Rattle.std.proofs.Common.{ap, ◌∙◌, arith}
+use Rattle.std.proofs.Common.{ap, ◌∙◌}
 use lib.Seq.{sets}
 use Rattle.unit.proofs.Facts.{sound-facts}
 use Rattle.image.specs.Bodies.{tail_bytes}
