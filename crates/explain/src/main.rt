@@ -1,5 +1,7 @@
 #![tactic(auto)]
 // The program `explain`: the log on standard input in words.
-fn main() {
-    explain_body::explain(libc::STDIN_FILENO);
+use std::io;
+
+fn main(rt: HostRuntime) -> io::Result<()> {
+    explain_body::explain(&rt, rt.alloc(), &mut rt.stdin())
 }

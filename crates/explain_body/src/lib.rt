@@ -14,7 +14,11 @@ use crate::words::{refusal_words, stop_words};
 use place::limits::{FLEET_TRIES, Limits};
 use record::event::Reading;
 use record::take::{NOTHING_LEFT, RECORD_SHORT, Taken, take};
+use std::alloc::Global;
+use std::io;
+use std::io::Read;
 use std::num::wrapping_add_u64;
+use streams::read_full;
 use unit::start::cold_start;
 use unit::state::State;
 use wire::byte::byte_at;
@@ -30,81 +34,88 @@ struct Walk {
 
 impl Walk {
     // The last line: the stop in words, with the kind that stands there if one does.
-    fn stopped(self, stop: u8, rest: &[u8]) -> Walk {
+    fn stopped(self, out: &impl Print, stop: u8, rest: &[u8]) -> io::Result<Walk> {
         let state = self.state;
-        say(b"stop ");
-        number(stop as u64);
-        say(b": ");
-        stop_words(stop);
+        say(out, b"stop ")?;
+        number(out, stop as u64)?;
+        say(out, b": ")?;
+        stop_words(out, stop)?;
         if rest.len() > 0 {
-            say(b", kind ");
-            number(byte_at(rest, 0) as u64);
+            say(out, b", kind ")?;
+            number(out, byte_at(rest, 0) as u64)?;
         }
-        say(b"; records ");
-        number(self.read);
-        say(b", bytes ");
-        number(self.at as u64);
-        say(b"\n");
-        Walk {
+        say(out, b"; records ")?;
+        number(out, self.read)?;
+        say(out, b", bytes ")?;
+        number(out, self.at as u64)?;
+        say(out, b"\n")?;
+        Ok(Walk {
             state,
             at: self.at,
             read: self.read,
             more: false,
-        }
+        })
     }
 
     // The refusal of a log that is too long.
-    fn refused(self, code: u8) -> Walk {
+    fn refused(self, out: &impl Print, code: u8) -> io::Result<Walk> {
         let state = self.state;
-        say(b"refused with ");
-        number(code as u64);
-        say(b": ");
-        refusal_words(code);
-        say(b"\n");
-        Walk {
+        say(out, b"refused with ")?;
+        number(out, code as u64)?;
+        say(out, b": ")?;
+        refusal_words(out, code)?;
+        say(out, b"\n")?;
+        Ok(Walk {
             state,
             at: self.at,
             read: self.read,
             more: false,
-        }
+        })
     }
 
     // The record at the front of the rest, shown as it was taken and then applied.
-    fn record(self, rest: &[u8], length: usize, reading: Reading) -> Walk {
+    fn record(
+        self,
+        out: &impl Print,
+        rest: &[u8],
+        length: usize,
+        reading: Reading,
+    ) -> io::Result<Walk> {
         if rest.len() < length {
-            return self.stopped(RECORD_SHORT, rest);
+            return self.stopped(out, RECORD_SHORT, rest);
         }
         let ordinal = wrapping_add_u64(self.read, 1);
         let state = self.state;
         show_record(
+            out,
             ordinal,
             self.at,
             reading,
             byte_at(rest, 0),
             byte_at(rest, 1),
-        );
+        )?;
         let answer = state.apply(&rest[0..length]);
         let next = answer.state;
-        show_answer(answer);
-        Walk {
+        show_answer(out, answer)?;
+        Ok(Walk {
             state: next,
             at: sum(self.at, length),
             read: ordinal,
             more: true,
-        }
+        })
     }
 
     // What stands next.
-    fn next(self, log: &[u8]) -> Walk {
+    fn next(self, out: &impl Print, log: &[u8]) -> io::Result<Walk> {
         let at = self.at;
         if at > log.len() {
-            return self.stopped(NOTHING_LEFT, &log[..0]);
+            return self.stopped(out, NOTHING_LEFT, &log[..0]);
         }
         let rest = &log[at..];
         match take(rest) {
-            Taken::Whole { length, reading } => self.record(rest, length, reading),
-            Taken::Stopped(stop) => self.stopped(stop, rest),
-            Taken::Refused(code) => self.refused(code),
+            Taken::Whole { length, reading } => self.record(out, rest, length, reading),
+            Taken::Stopped(stop) => self.stopped(out, stop, rest),
+            Taken::Refused(code) => self.refused(out, code),
         }
     }
 }
@@ -115,7 +126,7 @@ fn sum(a: usize, b: usize) -> usize {
 }
 
 // A log of so many bytes has no more records, and one turn more finds the stop.
-fn through(log: &[u8]) -> Walk {
+fn through(out: &impl Print, log: &[u8]) -> io::Result<Walk> {
     let start = cold_start(Limits {
         lowest: 1,
         highest: 2,
@@ -130,33 +141,28 @@ fn through(log: &[u8]) -> Walk {
     };
     let mut left = log.len();
     loop {
-        so_far = so_far.next(log);
+        so_far = so_far.next(out, log)?;
         if left == 0 {
-            break so_far;
+            break Ok(so_far);
         }
         if so_far.more {
             left -= 1;
         } else {
-            break so_far;
+            break Ok(so_far);
         }
     }
 }
 
-fn show_all(fd: i32, room: &mut [u8]) {
-    let n = io::read_full(fd, room);
-    let end = through(&room[..n]);
+fn show_all(out: &impl Print, input: &mut impl Read, room: &mut [u8]) -> io::Result<()> {
+    let n = read_full(input, room)?;
+    let end = through(out, &room[..n])?;
     let state = end.state;
-    show_places(state);
-    show_last(state);
+    show_places(out, state)?;
+    show_last(out, state)
 }
 
-// A reference to an array of this length is lent on as a slice with no proof; an array of a million zeros is not.
-fn lent(fd: i32, room: &mut [u8; 1048577]) {
-    show_all(fd, room);
-}
-
-// Explains the log that an open file holds. The room is one byte more than the longest log, so that a longer one is refused, not cut.
-pub fn explain(fd: i32) {
-    let mut room = [0u8; 1048577];
-    lent(fd, &mut room);
+// Explains the log that an input holds. The room is one byte more than the longest log, so that a longer one is refused, not cut.
+pub fn explain(out: &impl Print, alloc: Global, input: &mut impl Read) -> io::Result<()> {
+    let mut room = vec![in alloc; 0u8; 1048577]?;
+    show_all(out, input, room.as_mut_slice())
 }

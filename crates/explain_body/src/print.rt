@@ -1,10 +1,11 @@
 // Printing to standard output.
-use libc::STDOUT_FILENO;
+use std::io;
+use streams::print_decimal;
 
-pub(crate) fn say(words: &[u8]) {
-    io::write_all(STDOUT_FILENO, words);
+pub(crate) fn say(out: &impl Print, words: &[u8]) -> io::Result<()> {
+    out.write_all(words)
 }
 
-pub(crate) fn number(n: u64) {
-    io::print_decimal(STDOUT_FILENO, n);
+pub(crate) fn number(out: &impl Print, n: u64) -> io::Result<()> {
+    print_decimal(out, n)
 }

@@ -18,153 +18,149 @@ use crate::words::{print, print_actions, print_event, print_number, print_phase,
 use place::phase::FIRST_TRY;
 use place::place::Place;
 use record::read::{KIND_DROP, KIND_LOSS, KIND_TIMEOUT, KIND_UP};
+use std::io;
 use wire::join::and;
 
-fn print_cell(cell: Cell, closes: bool) {
+fn print_cell(out: &impl Print, cell: Cell, closes: bool) -> io::Result<()> {
     let early = cell.early;
     if cell.is_refused() {
-        print(b" no |");
-        return;
+        return print(out, b" no |");
     }
     if closes {
-        print(b" close |");
-        return;
+        return print(out, b" close |");
     }
     if cell.judges() {
-        print(b" judge |");
-        return;
+        return print(out, b" judge |");
     }
-    print(b" ");
+    print(out, b" ")?;
     if cell.counts() {
-        print_number(early.first);
+        print_number(out, early.first)?;
     } else {
-        print_said(early);
+        print_said(out, early)?;
     }
-    print(b" |");
+    print(out, b" |")
 }
 
-fn head(heard: Heard) {
-    print(b" ");
-    print_event(heard);
-    print(b" |");
+fn head(out: &impl Print, heard: Heard) -> io::Result<()> {
+    print(out, b" ")?;
+    print_event(out, heard)?;
+    print(out, b" |")
 }
 
-fn heads() {
-    print(b"| |");
-    head(signal(KIND_DROP));
-    head(signal(KIND_UP));
-    head(signal(KIND_LOSS));
-    head(signal(KIND_TIMEOUT));
-    head(with_version(SUPPORTED));
-    head(message(ENDED));
-    print(b"\n|---|---|---|---|---|---|---|\n");
+fn heads(out: &impl Print) -> io::Result<()> {
+    print(out, b"| |")?;
+    head(out, signal(KIND_DROP))?;
+    head(out, signal(KIND_UP))?;
+    head(out, signal(KIND_LOSS))?;
+    head(out, signal(KIND_TIMEOUT))?;
+    head(out, with_version(SUPPORTED))?;
+    head(out, message(ENDED))?;
+    print(out, b"\n|---|---|---|---|---|---|---|\n")
 }
 
-fn print_answers(phase: u8, heard: Heard) {
-    print_cell(answers(phase, heard), closes(heard));
+fn print_answers(out: &impl Print, phase: u8, heard: Heard) -> io::Result<()> {
+    print_cell(out, answers(phase, heard), closes(heard))
 }
 
-fn row(phase: u8) {
-    print(b"| ");
-    print_phase(phase_of(phase, FIRST_TRY));
-    print(b" |");
-    print_answers(phase, signal(KIND_DROP));
-    print_answers(phase, signal(KIND_UP));
-    print_answers(phase, signal(KIND_LOSS));
-    print_answers(phase, signal(KIND_TIMEOUT));
-    print_answers(phase, with_version(SUPPORTED));
-    print_answers(phase, message(ENDED));
-    print(b"\n");
+fn row(out: &impl Print, phase: u8) -> io::Result<()> {
+    print(out, b"| ")?;
+    print_phase(out, phase_of(phase, FIRST_TRY))?;
+    print(out, b" |")?;
+    print_answers(out, phase, signal(KIND_DROP))?;
+    print_answers(out, phase, signal(KIND_UP))?;
+    print_answers(out, phase, signal(KIND_LOSS))?;
+    print_answers(out, phase, signal(KIND_TIMEOUT))?;
+    print_answers(out, phase, with_version(SUPPORTED))?;
+    print_answers(out, phase, message(ENDED))?;
+    print(out, b"\n")
 }
 
 // Where an arrow begins or ends: a phase, or no place.
-fn print_end(place: Place) {
+fn print_end(out: &impl Print, place: Place) -> io::Result<()> {
     if place.is_free() {
-        print(b"[*]");
+        print(out, b"[*]")
     } else {
-        print_phase(place.held_phase());
+        print_phase(out, place.held_phase())
     }
 }
 
 // The front of an arrow, up to its event.
-fn begin_arrow(from: Place, said: Said) {
-    print(b"    ");
-    print_end(from);
-    print(b" --> ");
-    print_end(said.place);
-    print(b": ");
+fn begin_arrow(out: &impl Print, from: Place, said: Said) -> io::Result<()> {
+    print(out, b"    ")?;
+    print_end(out, from)?;
+    print(out, b" --> ")?;
+    print_end(out, said.place)?;
+    print(out, b": ")
 }
 
-fn end_arrow(said: Said) {
-    print_actions(said, b" / ", b" ");
-    print(b"\n");
+fn end_arrow(out: &impl Print, said: Said) -> io::Result<()> {
+    print_actions(out, said, b" / ", b" ")?;
+    print(out, b"\n")
 }
 
 // An arrow of an event, with these words after it.
-fn arrow(phase: u8, heard: Heard, said: Said, words: &[u8]) {
-    begin_arrow(place_in(phase, FIRST_TRY), said);
-    print_event(heard);
-    print(words);
-    end_arrow(said);
+fn arrow(out: &impl Print, phase: u8, heard: Heard, said: Said, words: &[u8]) -> io::Result<()> {
+    begin_arrow(out, place_in(phase, FIRST_TRY), said)?;
+    print_event(out, heard)?;
+    print(out, words)?;
+    end_arrow(out, said)
 }
 
 // The arrow of an event in a phase, or the two where the answer depends on the version or the tries; none where it is refused.
-fn arrows(phase: u8, heard: Heard) {
+fn arrows(out: &impl Print, phase: u8, heard: Heard) -> io::Result<()> {
     let cell = answers(phase, heard);
     let early = cell.early;
     let late = cell.late;
     let other = cell.other;
     if cell.is_refused() {
-        return;
+        return Ok(());
     }
     if cell.judges() {
-        arrow(phase, heard, early, b", X supported");
-        arrow(phase, heard, other, b", X not supported");
-        return;
+        arrow(out, phase, heard, early, b", X supported")?;
+        return arrow(out, phase, heard, other, b", X not supported");
     }
     if cell.counts() {
-        arrow(phase, heard, early, b", tries under n");
-        arrow(phase, heard, late, b", tries n");
-        return;
+        arrow(out, phase, heard, early, b", tries under n")?;
+        return arrow(out, phase, heard, late, b", tries n");
     }
-    arrow(phase, heard, early, b"");
+    arrow(out, phase, heard, early, b"")
 }
 
-fn arrows_from(phase: u8) {
-    arrows(phase, signal(KIND_DROP));
-    arrows(phase, signal(KIND_UP));
-    arrows(phase, signal(KIND_LOSS));
-    arrows(phase, signal(KIND_TIMEOUT));
-    arrows(phase, with_version(SUPPORTED));
-    arrows(phase, message(ENDED));
+fn arrows_from(out: &impl Print, phase: u8) -> io::Result<()> {
+    arrows(out, phase, signal(KIND_DROP))?;
+    arrows(out, phase, signal(KIND_UP))?;
+    arrows(out, phase, signal(KIND_LOSS))?;
+    arrows(out, phase, signal(KIND_TIMEOUT))?;
+    arrows(out, phase, with_version(SUPPORTED))?;
+    arrows(out, phase, message(ENDED))
 }
 
 // The arrows into a place: an order, and a call.
-fn entries() {
+fn entries(out: &impl Print) -> io::Result<()> {
     let ordered = order(Place::free());
-    begin_arrow(Place::free(), ordered);
-    print(b"order");
-    end_arrow(ordered);
+    begin_arrow(out, Place::free(), ordered)?;
+    print(out, b"order")?;
+    end_arrow(out, ordered)?;
     let called = hear(Place::free(), message(CALL));
-    begin_arrow(Place::free(), called);
-    print(b"call ");
-    print_event(message(CALL));
-    end_arrow(called);
+    begin_arrow(out, Place::free(), called)?;
+    print(out, b"call ")?;
+    print_event(out, message(CALL))?;
+    end_arrow(out, called)
 }
 
-fn main() {
-    heads();
-    row(1);
-    row(2);
-    row(3);
-    row(4);
-    row(5);
-    print(b"```mermaid\nstateDiagram-v2\n");
-    entries();
-    arrows_from(1);
-    arrows_from(2);
-    arrows_from(3);
-    arrows_from(4);
-    arrows_from(5);
-    print(b"```\n");
+fn main(rt: HostRuntime) -> io::Result<()> {
+    heads(&rt)?;
+    row(&rt, 1)?;
+    row(&rt, 2)?;
+    row(&rt, 3)?;
+    row(&rt, 4)?;
+    row(&rt, 5)?;
+    print(&rt, b"```mermaid\nstateDiagram-v2\n")?;
+    entries(&rt)?;
+    arrows_from(&rt, 1)?;
+    arrows_from(&rt, 2)?;
+    arrows_from(&rt, 3)?;
+    arrows_from(&rt, 4)?;
+    arrows_from(&rt, 5)?;
+    print(&rt, b"```\n")
 }

@@ -3,8 +3,9 @@
 // and how many fields were mended, and then the images' bytes as they are. Of more than 1,048,576 bytes it reads as many.
 use image::layout::SIZE_A2;
 use image::rescue::rescue;
-use libc::{STDIN_FILENO, STDOUT_FILENO};
+use std::io;
 use std::num::wrapping_add_u64;
+use streams::{print_count, read_full};
 use wire::refusal::ACCEPTED;
 
 // The walk so far: the offset reached, the images rescued, refused and mended fields, and whether a whole image may follow.
@@ -74,37 +75,27 @@ fn through(room: &mut [u8]) -> Walk {
     so_far
 }
 
-// A count in eight hex digits: a larger one takes no more instructions to print.
-fn print_count(n: u64) {
-    io::print_hex(STDOUT_FILENO, n, 8);
+fn print(out: &impl Print, end: Walk) -> io::Result<()> {
+    out.write_all(b"images ")?;
+    print_count(out, end.images)?;
+    out.write_all(b" refused ")?;
+    print_count(out, end.refused)?;
+    out.write_all(b" fields ")?;
+    print_count(out, end.fields)?;
+    out.write_all(b"\n")
 }
 
-fn print(end: Walk) {
-    io::write_all(STDOUT_FILENO, b"images ");
-    print_count(end.images);
-    io::write_all(STDOUT_FILENO, b" refused ");
-    print_count(end.refused);
-    io::write_all(STDOUT_FILENO, b" fields ");
-    print_count(end.fields);
-    io::write_all(STDOUT_FILENO, b"\n");
+fn rescue_all(out: &impl Print, images: &mut [u8]) -> io::Result<()> {
+    print(out, through(images))?;
+    out.write_all(images)
 }
 
-fn rescue_all(images: &mut [u8]) {
-    print(through(images));
-    io::write_all(STDOUT_FILENO, images);
+fn rescues_in(rt: &HostRuntime, room: &mut [u8]) -> io::Result<()> {
+    let n = read_full(&mut rt.stdin(), room)?;
+    rescue_all(rt, &mut room[..n])
 }
 
-fn rescues_in(room: &mut [u8]) {
-    let n = io::read_full(STDIN_FILENO, room);
-    rescue_all(&mut room[..n]);
-}
-
-// A reference to an array of this length is lent on as a slice with no proof; an array of a million zeros is not.
-fn lent(room: &mut [u8; 1048576]) {
-    rescues_in(room);
-}
-
-fn main() {
-    let mut room = [0u8; 1048576];
-    lent(&mut room);
+fn main(rt: HostRuntime) -> io::Result<()> {
+    let mut room = vec![in rt.alloc(); 0u8; 1048576]?;
+    rescues_in(&rt, room.as_mut_slice())
 }

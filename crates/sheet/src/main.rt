@@ -1,5 +1,7 @@
 #![tactic(auto)]
 // The program `sheet`: a log from standard input, its sheet to standard output.
-fn main() {
-    sheet_body::sheet(libc::STDIN_FILENO);
+use std::io;
+
+fn main(rt: HostRuntime) -> io::Result<()> {
+    sheet_body::sheet(&rt, rt.alloc(), &mut rt.stdin())
 }

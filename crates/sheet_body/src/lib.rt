@@ -1,28 +1,26 @@
 #![tactic(auto)]
-// The body of `sheet` and `sheets`: a log from a file, its sheet to standard output.
+// The body of `sheet` and `sheets`: a log from an input, its sheet to standard output.
 ghost use Rattle.std.specs.Prelude.{◌≤◌, length};
 ghost use Rattle.text.specs.Sheets.{sheet_room};
 
-use libc::STDOUT_FILENO;
+use std::alloc::Global;
+use std::io;
+use std::io::Read;
+use streams::read_full;
 use text::sheet::sheet_into;
 
 // The sheet, made in a room that holds every sheet. A byte more than the longest input is read, so that a longer one is known.
-fn print(fd: i32, room: &mut [u8])
+fn print(out: &impl Print, input: &mut impl Read, room: &mut [u8]) -> io::Result<()>
     requires { sheet_room ≤ length room.old }
 {
-    let mut input = [0u8; 4097];
-    let n = io::read_full(fd, &mut input);
-    let used = sheet_into(&input[..n], room);
-    io::write_all(STDOUT_FILENO, &room[..used]);
+    let mut log = [0u8; 4097];
+    let n = read_full(input, &mut log)?;
+    let used = sheet_into(&log[..n], room);
+    out.write_all(&room[..used])
 }
 
-// A reference to an array of this length is lent on as a slice with no proof; an array of so many zeros is not.
-fn lent(fd: i32, room: &mut [u8; 786646]) {
-    print(fd, room);
-}
-
-// Prints the sheet of the log that an open file holds.
-pub fn sheet(fd: i32) {
-    let mut room = [0u8; 786646];
-    lent(fd, &mut room);
+// Prints the sheet of the log that an input holds.
+pub fn sheet(out: &impl Print, alloc: Global, input: &mut impl Read) -> io::Result<()> {
+    let mut room = vec![in alloc; 0u8; 786646]?;
+    print(out, input, room.as_mut_slice())
 }

@@ -1,10 +1,11 @@
 #![tactic(auto)]
 // Steps on bytes through the log on standard input, with one buffer of 20 bytes for all records, and prints the records, those refused,
 // the actions, and then the buffer's bytes as they are. Of a log over 1,048,576 bytes it reads as many.
-use libc::{STDIN_FILENO, STDOUT_FILENO};
 use place::limits::{FLEET_TRIES, Limits};
 use record::read::length_of;
+use std::io;
 use std::num::wrapping_add_u64;
+use streams::{print_count, read_full};
 use unit::start::cold_start;
 use unit::state::State;
 use wire::refusal::ACCEPTED;
@@ -93,34 +94,25 @@ fn through(log: &[u8], actions: &mut [u8]) -> Walk {
     so_far
 }
 
-// A count in eight hex digits: a larger one takes no more instructions to print.
-fn print_count(n: u64) {
-    io::print_hex(STDOUT_FILENO, n, 8);
+fn print(out: &impl Print, end: Walk) -> io::Result<()> {
+    out.write_all(b"read ")?;
+    print_count(out, end.read)?;
+    out.write_all(b" refused ")?;
+    print_count(out, end.refused)?;
+    out.write_all(b" actions ")?;
+    print_count(out, end.sent)?;
+    out.write_all(b"\n")
 }
 
-fn print(end: Walk) {
-    io::write_all(STDOUT_FILENO, b"read ");
-    print_count(end.read);
-    io::write_all(STDOUT_FILENO, b" refused ");
-    print_count(end.refused);
-    io::write_all(STDOUT_FILENO, b" actions ");
-    print_count(end.sent);
-    io::write_all(STDOUT_FILENO, b"\n");
-}
-
-fn steps_on(room: &mut [u8]) {
-    let n = io::read_full(STDIN_FILENO, room);
+// Steps through what standard input holds, as far as there is room for it.
+fn steps_on(rt: &HostRuntime, room: &mut [u8]) -> io::Result<()> {
+    let n = read_full(&mut rt.stdin(), room)?;
     let mut actions = [0u8; 20];
-    print(through(&room[..n], &mut actions));
-    io::write_all(STDOUT_FILENO, &actions);
+    print(rt, through(&room[..n], &mut actions))?;
+    rt.write_all(&actions)
 }
 
-// A reference to an array of this length is lent on as a slice with no proof; an array of a million zeros is not.
-fn lent(room: &mut [u8; 1048576]) {
-    steps_on(room);
-}
-
-fn main() {
-    let mut room = [0u8; 1048576];
-    lent(&mut room);
+fn main(rt: HostRuntime) -> io::Result<()> {
+    let mut room = vec![in rt.alloc(); 0u8; 1048576]?;
+    steps_on(&rt, room.as_mut_slice())
 }
