@@ -1,7 +1,8 @@
 // What the words behind a command ask for: a file, the number of a record, options and their values.
-use crate::files::{buffer, front};
+use crate::files::front;
 use place::limits::{FLEET_TRIES, Limits};
 use std::env::{Env, FillError};
+use streams::buffer;
 use tools::started::{FLEET_HIGHEST, FLEET_LOWEST};
 use wire::byte::byte_at;
 use wire::join::{and, negated};

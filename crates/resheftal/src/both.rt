@@ -1,8 +1,9 @@
 // The command `sets`: what both engines do with a log, told a piece at a time.
 use crate::asked::Asked;
-use crate::files::{Got, buffer, front, read_named};
+use crate::files::{Got, front, read_named};
 use crate::say::{FAILED, ended, goes_on};
 use place::limits::Limits;
+use streams::buffer;
 use tools::both::{Comparing, both_next_text, both_text};
 
 // Whether the last piece, the front of a room, is said, and another follows.

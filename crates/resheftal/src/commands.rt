@@ -1,9 +1,11 @@
 // The commands `judge` and `produce`: a file read, what is asked of it told, and what was made kept.
 use crate::asked::{Asked, same};
-use crate::files::{Got, buffer, complain, front, read_named, replaced, word_in};
+use crate::files::{Got, complain, front, read_named, replaced};
 use crate::say::{ANOTHER, DONE, FAILED, is_said, said, tell};
 use judge::produce::produce;
 use place::limits::Limits;
+use streams::buffer;
+use streams::words::word;
 use tools::judged::judge_text;
 use tools::made::produce_text;
 use wire::refusal::ACCEPTED;
@@ -53,7 +55,7 @@ fn is_kept(rt: &HostRuntime, outside: bool, path: &[u8], made: &[u8]) -> bool {
 // Keeps what was made, where it was not refused, under the name that the word of this number is, and tells of it.
 pub(crate) fn keep(rt: &HostRuntime, output: usize, code: u8, made: &[u8], words: &[u8]) -> u8 {
     let mut name = buffer();
-    let n = word_in(rt, output, &mut name);
+    let n = word(rt, output, &mut name);
     let path = front(&name, n);
     let outside = same(path, b"-");
     if code != ACCEPTED {

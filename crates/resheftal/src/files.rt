@@ -1,13 +1,12 @@
 // Reading a file whole, writing a text, and what was made in the place of a file.
-ghost use Rattle.std.specs.Prelude.{◌≡◌, length};
-
 use crate::asked::same;
-use std::env::Env;
-use std::fs::{File, OpenOptions, remove_file, rename};
+use std::fs::File;
 use std::io;
-use std::io::{ErrorKind, Read, Write};
+use std::io::{ErrorKind, Write};
 use std::random::RandomSource;
-use std::str::from_utf8;
+use streams::files::{create_new, open_read, open_update, remove, rename};
+use streams::words::word;
+use streams::{buffer, fail, read_full};
 use tools::text::{put, put_number};
 
 // What reading a file gave: so many bytes, or an error, which is told.
@@ -25,24 +24,9 @@ pub(crate) enum Held {
     Failed,
 }
 
-// Room for a word or a text. The `ensures` gives only the length.
-pub(crate) fn buffer() -> [u8; 4096]
-    ensures { 4096 ≡ length result }
-{
-    [0; 4096]
-}
-
 // The first bytes of a room.
 pub(crate) fn front(room: &[u8], n: usize) -> &[u8] {
     if n <= room.len() { &room[0..n] } else { room }
-}
-
-// Puts the word of this number into a room; answers how long it is, 0 where there is none or it is too long.
-pub(crate) fn word_in(rt: &HostRuntime, at: usize, room: &mut [u8]) -> usize {
-    match rt.arg(at, room) {
-        Ok(n) => n,
-        Err(_) => 0,
-    }
 }
 
 // Words on standard error. That they cannot be written is told nowhere.
@@ -50,48 +34,9 @@ pub(crate) fn complain(rt: &HostRuntime, words: &[u8]) {
     let _ = rt.stderr().write_all(words);
 }
 
-// Why something failed, in the system's words, without the number that is put behind them.
-fn complain_why(rt: &HostRuntime, error: &io::Error) {
-    let Ok(text) = format!(in rt.alloc(); "{error}") else {
-        return;
-    };
-    match text.as_str().split_once(" (os error ") {
-        Some((words, _)) => complain(rt, words.as_bytes()),
-        None => complain(rt, text.as_str().as_bytes()),
-    }
-}
-
-// A line on standard error: what failed, and why.
-fn fail(rt: &HostRuntime, name: &[u8], error: &io::Error) {
-    complain(rt, name);
-    complain(rt, b": ");
-    complain_why(rt, error);
-    complain(rt, b"\n");
-}
-
-// A name as text, which the names of files are; that it is none is told.
-fn text_of<'a>(rt: &HostRuntime, path: &'a [u8]) -> Option<&'a str> {
-    match from_utf8(path) {
-        Ok(text) => Some(text),
-        Err(_) => {
-            complain(rt, path);
-            complain(rt, b": not a name in UTF-8\n");
-            None
-        }
-    }
-}
-
-// Reads an open file to its end, or until the room is full. Each read but the last gives a byte, so that there are no more than bytes.
-fn read_open<F: Read>(file: &mut F, room: &mut [u8]) -> io::Result<usize> {
-    let mut at = 0;
-    while at < room.len() {
-        let n = file.read(&mut room[at..])?;
-        if n == 0 {
-            break;
-        }
-        at += n;
-    }
-    Ok(at)
+// A line on standard error: what failed, and why. That it cannot be written is told nowhere.
+fn complain_why(rt: &HostRuntime, name: &[u8], error: io::Error) {
+    let _ = fail(&rt.stderr(), rt.alloc(), name, error);
 }
 
 // What was reached; that a read failed is told of this name.
@@ -99,40 +44,35 @@ fn told(rt: &HostRuntime, reached: io::Result<usize>, name: &[u8]) -> Got {
     match reached {
         Ok(n) => Got::Bytes(n),
         Err(error) => {
-            fail(rt, name, &error);
+            complain_why(rt, name, error);
             Got::Failed
         }
     }
 }
 
-// Opens the file of this name; that it cannot be opened is told.
-fn read_file(rt: &HostRuntime, path: &[u8], room: &mut [u8]) -> Got {
-    let Some(text) = text_of(rt, path) else {
-        return Got::Failed;
-    };
-    match File::open(rt, text) {
-        Ok(mut file) => told(rt, read_open(&mut file, room), path),
-        Err(error) => told(rt, Err(error), path),
-    }
+// Reads the file of this name, to its end or until the room is full.
+fn read_file(rt: &HostRuntime, path: &[u8], room: &mut [u8]) -> io::Result<usize> {
+    let mut file = open_read(rt, path)?;
+    read_full(&mut file, room)
 }
 
-// Reads the file that the word of this number names; a dash is standard input.
-pub(crate) fn read_named(rt: &HostRuntime, word: usize, room: &mut [u8]) -> Got {
+// Reads the file that the word of this number names, to its end or until the room is full; a dash is standard input.
+pub(crate) fn read_named(rt: &HostRuntime, at: usize, room: &mut [u8]) -> Got {
     let mut name = buffer();
-    let n = word_in(rt, word, &mut name);
+    let n = word(rt, at, &mut name);
     let path = front(&name, n);
     if same(path, b"-") {
-        return told(rt, read_open(&mut rt.stdin(), room), b"standard input");
+        return told(rt, read_full(&mut rt.stdin(), room), b"standard input");
     }
-    read_file(rt, path, room)
+    told(rt, read_file(rt, path, room), path)
 }
 
-// Writes all of a text; that it cannot be written is told of this name.
-pub(crate) fn written<F: Write>(rt: &HostRuntime, file: &mut F, name: &[u8], text: &[u8]) -> bool {
-    match file.write_all(text) {
+// Whether a step succeeded; that it did not is told of this name.
+pub(crate) fn succeeded(rt: &HostRuntime, name: &[u8], step: io::Result<()>) -> bool {
+    match step {
         Ok(()) => true,
         Err(error) => {
-            fail(rt, name, &error);
+            complain_why(rt, name, error);
             false
         }
     }
@@ -150,46 +90,36 @@ fn is_regular(rt: &HostRuntime, path: &[u8], file: &File) -> bool {
 
 // Whether a file of this name can be replaced: there is none, or it may be written and is a regular file.
 fn is_replaceable(rt: &HostRuntime, path: &[u8]) -> bool {
-    let Some(text) = text_of(rt, path) else {
-        return false;
-    };
-    match OpenOptions::new().read(true).write(true).open(rt, text) {
+    match open_update(rt, path) {
         Ok(file) => is_regular(rt, path, &file),
         Err(error) => {
             if error.kind() == ErrorKind::NotFound {
                 return true;
             }
-            fail(rt, path, &error);
+            complain_why(rt, path, error);
             false
         }
     }
 }
 
 // What a file that may not be there gave: none is nothing; another error is told of this name.
-fn held_under(rt: &HostRuntime, path: &[u8], text: &str, room: &mut [u8]) -> Held {
-    match File::open(rt, text) {
-        Ok(mut file) => found(told(rt, read_open(&mut file, room), path)),
+fn found(rt: &HostRuntime, path: &[u8], reached: io::Result<usize>) -> Held {
+    match reached {
+        Ok(n) => Held::Bytes(n),
         Err(error) => {
             if error.kind() == ErrorKind::NotFound {
                 return Held::Nothing;
             }
-            fail(rt, path, &error);
+            complain_why(rt, path, error);
             Held::Failed
         }
     }
 }
 
-fn found(got: Got) -> Held {
-    match got {
-        Got::Bytes(n) => Held::Bytes(n),
-        Got::Failed => Held::Failed,
-    }
-}
-
 // Reads what stands under the name of an output, which the word of this number is; under a dash, standard output, nothing does.
-pub(crate) fn read_output(rt: &HostRuntime, word: usize, room: &mut [u8]) -> Held {
+pub(crate) fn read_output(rt: &HostRuntime, at: usize, room: &mut [u8]) -> Held {
     let mut name = buffer();
-    let n = word_in(rt, word, &mut name);
+    let n = word(rt, at, &mut name);
     let path = front(&name, n);
     if same(path, b"-") {
         return Held::Nothing;
@@ -197,10 +127,7 @@ pub(crate) fn read_output(rt: &HostRuntime, word: usize, room: &mut [u8]) -> Hel
     if !is_replaceable(rt, path) {
         return Held::Failed;
     }
-    match text_of(rt, path) {
-        Some(text) => held_under(rt, path, text, room),
-        None => Held::Failed,
-    }
+    found(rt, path, read_file(rt, path, room))
 }
 
 fn drawn(a: u8, b: u8, c: u8) -> usize {
@@ -217,56 +144,24 @@ fn name_beside(rt: &HostRuntime, path: &[u8], beside: &mut [u8]) -> usize {
 }
 
 // Removes the new file, when something failed that was told.
-fn removed(rt: &HostRuntime, new: &str) -> bool {
-    let _ = remove_file(rt, new);
+fn removed(rt: &HostRuntime, new: &[u8]) -> bool {
+    let _ = remove(rt, new);
     false
 }
 
-// Whether a step succeeded; that it did not is told of this name.
-fn succeeded(rt: &HostRuntime, path: &[u8], step: io::Result<()>) -> bool {
-    match step {
-        Ok(()) => true,
-        Err(error) => {
-            fail(rt, path, &error);
-            false
-        }
-    }
-}
-
 // Writes what was made to a new file that is open, and gives it the other name once all of it is kept.
-fn renamed(
-    rt: &HostRuntime,
-    mut file: File,
-    new: &str,
-    path: &[u8],
-    text: &str,
-    made: &[u8],
-) -> bool {
-    if !written(rt, &mut file, path, made) {
+fn renamed(rt: &HostRuntime, file: File, new: &[u8], path: &[u8], made: &[u8]) -> bool {
+    let mut file = file;
+    if !succeeded(rt, path, file.write_all(made)) {
         return removed(rt, new);
     }
     if !succeeded(rt, path, file.sync_all()) {
         return removed(rt, new);
     }
-    if !succeeded(rt, path, rename(rt, new, text)) {
+    if !succeeded(rt, path, rename(rt, new, path)) {
         return removed(rt, new);
     }
     true
-}
-
-// Puts what was made in the place of the file of this name, by a new file of another name.
-fn replaced_by(rt: &HostRuntime, new: &str, path: &[u8], text: &str, made: &[u8]) -> bool {
-    match OpenOptions::new()
-        .write(true)
-        .create_new(true)
-        .open(rt, new)
-    {
-        Ok(file) => renamed(rt, file, new, path, text, made),
-        Err(error) => {
-            fail(rt, path, &error);
-            false
-        }
-    }
 }
 
 // Puts what was made in the place of the file of this name, or makes it; where something fails, that is told, and the file is as it was.
@@ -276,11 +171,12 @@ pub(crate) fn replaced(rt: &HostRuntime, path: &[u8], made: &[u8]) -> bool {
     }
     let mut beside = buffer();
     let n = name_beside(rt, path, &mut beside);
-    let Some(new) = text_of(rt, front(&beside, n)) else {
-        return false;
-    };
-    match text_of(rt, path) {
-        Some(text) => replaced_by(rt, new, path, text, made),
-        None => false,
+    let new = front(&beside, n);
+    match create_new(rt, new) {
+        Ok(file) => renamed(rt, file, new, path, made),
+        Err(error) => {
+            complain_why(rt, path, error);
+            false
+        }
     }
 }

@@ -1,7 +1,8 @@
 // The command `state`: the state after a record of a log, from the start or from the nearest mark.
 use crate::asked::Asked;
-use crate::files::{Got, buffer, front, read_named};
+use crate::files::{Got, front, read_named};
 use crate::say::{FAILED, tell};
+use streams::buffer;
 use tools::stepped::{marked_state_text, state_text};
 
 fn find(rt: &HostRuntime, asked: Asked, log: &[u8]) -> u8 {

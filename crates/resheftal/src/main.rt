@@ -12,13 +12,14 @@ mod shunting;
 use crate::asked::{Asked, Command, NOTHING, UNKNOWN, read_words, same};
 use crate::both::compare_file;
 use crate::commands::{judge_file, produce_file};
-use crate::files::{buffer, front};
+use crate::files::front;
 use crate::finding::state_of;
 use crate::marking::mark_file;
 use crate::say::{help, misused, no_words, version};
 use crate::shunting::shunt_file;
 use std::env::{Env, FillError};
 use std::process::ExitCode;
+use streams::buffer;
 use tools::help::Topic;
 
 fn topic_of(command: Command) -> Topic {

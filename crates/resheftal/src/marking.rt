@@ -1,11 +1,12 @@
 // The command `marks`: the marks of a log made, compared with those of a file, or extended.
 use crate::asked::Asked;
 use crate::commands::keep;
-use crate::files::{Got, Held, buffer, front, read_named, read_output};
+use crate::files::{Got, Held, front, read_named, read_output};
 use crate::say::{ANOTHER, FAILED, said, tell};
 use marks::build::{build, extend};
 use marks::mark::MARK_SIZE;
 use place::limits::Limits;
+use streams::buffer;
 use tools::marked::{built_text, compared_text, extended_text, odd_text};
 
 fn make(rt: &HostRuntime, asked: Asked, log: &[u8], room: &mut [u8]) -> u8 {

@@ -2,8 +2,9 @@
 use crate::asked::{
     NO_FILE, NO_NUMBER, NO_OUTPUT, NO_RECORD, NO_VALUE, ONE_TOO_MANY, UNKNOWN, WORD_TOO_LONG,
 };
-use crate::files::{buffer, complain, front, word_in, written};
-use std::io::Write;
+use crate::files::{complain, front, succeeded};
+use streams::buffer;
+use streams::words::word;
 use tools::help::{Topic, help_text, version_text};
 use tools::text::Told;
 
@@ -16,7 +17,7 @@ pub(crate) const FAILED: u8 = 2;
 
 // Whether bytes are written to standard output; that they are not is told.
 pub(crate) fn is_said(rt: &HostRuntime, bytes: &[u8]) -> bool {
-    written(rt, &mut rt.stdout(), b"standard output", bytes)
+    succeeded(rt, b"standard output", rt.stdout().write_all(bytes))
 }
 
 // The status after a text on standard output.
@@ -67,10 +68,10 @@ pub(crate) fn version(rt: &HostRuntime) -> u8 {
 
 // Words on standard error, and then the word of this number.
 fn complain_of(rt: &HostRuntime, words: &[u8], at: usize) {
-    let mut word = buffer();
-    let n = word_in(rt, at, &mut word);
+    let mut name = buffer();
+    let n = word(rt, at, &mut name);
     complain(rt, words);
-    complain(rt, front(&word, n));
+    complain(rt, front(&name, n));
 }
 
 // Wrong use: what is wrong, and at which word.

@@ -1,8 +1,9 @@
 // The command `shunter`: what the shunter does with a log, told a piece at a time.
 use crate::asked::Asked;
-use crate::files::{Got, buffer, front, read_named};
+use crate::files::{Got, front, read_named};
 use crate::say::{FAILED, ended, goes_on};
 use place::limits::Limits;
+use streams::buffer;
 use tools::shunted::{Telling, shunter_next_text, shunter_text};
 
 // Whether the last piece, the front of a room, is said, and another follows.
