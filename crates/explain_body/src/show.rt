@@ -259,7 +259,7 @@ pub(crate) fn show_last(out: &impl Print, state: State) -> io::Result<()> {
                 },
             )
         }
-    }
+    }?;
     say(out, b"\n")
 }
 

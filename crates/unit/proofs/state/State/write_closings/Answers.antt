@@ -13,7 +13,7 @@ use Rattle.unit.proofs.state.State.write_closings.Goals as goal
 
 pub loop-i-init : goal.loop-i-init
 unfolding closed sent_for written blocks
-loop-i-init c = (omega arith, refl, refl, refl, refl)
+loop-i-init c = (omega arith, refl, refl, refl)
 
 pub put_number-count-requires : goal.put_number-count-requires
 put_number-count-requires c =
@@ -26,11 +26,11 @@ put_number-count-requires c =
     let many : length ks ≡ 4 = length-map ps (closing_number which) ∙ four in
     let under : i < length ps = omega (arith, four, c.loop-i-test.true) in
     let within : i < length ks = omega (arith, many, c.loop-i-test.true) in
-    let number = closing-number which ps i under _ inv.2 _ c.close-turned.ensures in
+    let number = closing-number which ps i under _ inv.1 _ c.close-turned.ensures in
     let room = sent-room ps ks i under within in
     let same = ap (λ k. length (given k)) number in (
-      omega (arith, room, same, inv.3, c.loop-i-test.true),
-      omega (arith, c.requires, inv.1),
+      omega (arith, room, same, inv.2, c.loop-i-test.true),
+      omega arith,
     )
 
 pub loop-i-preserved : goal.loop-i-preserved
@@ -52,17 +52,16 @@ loop-i-preserved c =
     let wrote = c.put_number-count in
     let next =
     ap₂ (λ q k. so_far ++ map (act q) (given k))
-    (c.partner.ensures ∙ closing-partner which ps i under _ inv.2 _ closes)
-    (closing-number which ps i under _ inv.2 _ closes)
+    (c.partner.ensures ∙ closing-partner which ps i under _ inv.1 _ closes)
+    (closing-number which ps i under _ inv.1 _ closes)
     ∙ sent-more ps ks i under within in
     let total = ap length next in
     let joined = length-append so_far (map (act p) (given number)) in
     let same = length-map (given number) (act p) in (
       omega (arith, c.loop-i-test.true),
-      omega arith,
-      closings-places which ps i under _ inv.2 _ closes,
-      omega (arith, wrote.ensures.0, inv.3, total, joined, same),
-      wrote.ensures.1 so_far buffer inv.3 inv.4 ∙ ap (λ l. written l buffer) next,
+      closings-places which ps i under _ inv.1 _ closes,
+      omega (arith, wrote.ensures.0, inv.2, total, joined, same),
+      wrote.ensures.1 so_far buffer inv.2 inv.3 ∙ ap (λ l. written l buffer) next,
     )
 
 pub returns : goal.returns
@@ -77,7 +76,7 @@ returns c =
     let above : length ps ≤ i = omega (arith, four, c.loop-i-test.false) in
     let all-sent =
     sent-all ps ks i above (omega (arith, many, c.loop-i-test.false)) ∙ sent-closings which ps in (
-      inv.2 ∙ closings-all which ps i above,
-      inv.3 ∙ ap length all-sent,
-      inv.4 ∙ ap (λ l. written l c.args.s.now) all-sent,
+      inv.1 ∙ closings-all which ps i above,
+      inv.2 ∙ ap length all-sent,
+      inv.3 ∙ ap (λ l. written l c.args.s.now) all-sent,
     )

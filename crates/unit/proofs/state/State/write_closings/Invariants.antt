@@ -15,7 +15,6 @@ abbrev pub invariant-loop-i : goal.invariant-loop-i
 invariant-loop-i l =
     let ps : List Place = l.fn.self.places in
     (l.i ≤ 4)
-    × (length l.s ≡ length l.fn.s)
     × (l.places ≡ closed l.which (take l.i ps) ++ drop l.i ps)
     × (l.count ≡ length (sent_for (take l.i ps) (take l.i (all l.which ps))))
     × (l.s ≡ written (sent_for (take l.i ps) (take l.i (all l.which ps))) l.fn.s)

@@ -1,7 +1,5 @@
 -- What the event changes is carried out or refused.
-use Rattle.std.proofs.Common.{◌≡◌, refl, sym, ap, ◌∙◌, arith, length}
-use Rattle.unit.specs.Steps.{step}
-use Rattle.unit.specs.Changes.{made}
+use Rattle.std.proofs.Common.{refl, sym, ap, ◌∙◌, arith}
 use Rattle.unit.specs.Forms.{stepped}
 use Rattle.unit.specs.OnRecords.{written}
 use Rattle.unit.proofs.Settling.{carried-refused, carried-made, made-few, written-refused}
