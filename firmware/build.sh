@@ -6,7 +6,7 @@ set -eu
 cd "$(dirname "$0")"
 . ./tools.sh
 library
-out=../target/firmware
+out=out
 echo "example.c:"
 sh ./example.sh
 

@@ -37,7 +37,7 @@ fi
 
 crates=../crates
 awk -v shown="${1:-resheftal.h}" '
-    # REFUSED_NOT_TAKEN for notTaken; StartOfMission, phaseNumber and partnerBytes likewise
+    # REFUSED_NOT_TAKEN for not_taken; StartOfMission, phase_number and partner_bytes likewise
     function snake(name,  i, c, out) {
         sub(/(Number|Bytes)$/, "", name)
         for (i = 1; i <= length(name); i++) {
@@ -54,12 +54,12 @@ awk -v shown="${1:-resheftal.h}" '
     }
     # the name that a definition `name = number` gives; none for what concerns runs, the image A1 and the first try of a phase
     function named(file, name) {
-        if (file == "Refusals" && name !~ /^(logTooLong|notInA1)$/) return (name == "accepted" ? "" : "REFUSED_") snake(name)
-        if (file == "Table" && name != "firstTry") return "ACTION_" snake(name)
-        if (file == "Images" && name ~ /^(sizeA2|kindA2)$/) return "IMAGE_" snake(substr(name, 1, 4))
+        if (file == "Refusals" && name !~ /^(log_too_long|not_in_a1)$/) return (name == "accepted" ? "" : "REFUSED_") snake(name)
+        if (file == "Table" && name != "first_try") return "ACTION_" snake(name)
+        if (file == "Images" && name ~ /^(size_a2|kind_a2)$/) return "IMAGE_" snake(substr(name, 1, 4))
         if (file == "Partners" && name ~ /^(rbc|riu)$/) return "PARTNER_" snake(name)
-        if (name == "reservedNumber") return "RESERVED_NUMBER"
-        if (name ~ /^(placeSize|placeCount|highestX|actionRoom|actionSize|mostActions|interfaceNumber|perPlace)$/) return snake(name)
+        if (name == "reserved_number") return "RESERVED_NUMBER"
+        if (name ~ /^(place_size|place_count|highest_x|action_room|action_size|most_actions|interface_number|per_place)$/) return snake(name)
         if (file == "Records" || (file == "Places" && name ~ /Tries$/)) return snake(name)
         return ""
     }
@@ -68,14 +68,14 @@ awk -v shown="${1:-resheftal.h}" '
         n = split(list, item, "∷")
         for (i = 1; i <= n; i++) if (item[i] !~ /\[\]/) {
             gsub(/[()]/, "", item[i]); k = split(item[i], word, " ")
-            mean(prefix snake(word[1] ~ /^(s|asBit)$/ ? substr(word[k], 2) : word[1]), from + i - 1)
+            mean(prefix snake(word[1] ~ /^(s|as_bit)$/ ? substr(word[k], 2) : word[1]), from + i - 1)
         }
     }
     # a row of the table of kinds: its length, and the event that it means
     function row_ended(  word) {
         if (row == "") return
         split(row, word, " ")
-        if (row ~ /^partnerRow/) { size = partner_size; event = word[2] }
+        if (row ~ /^partner_row/) { size = partner_size; event = word[2] }
         else {
             size = word[2]
             event = match(row, /\(λ s[.] [A-Z][A-Za-z]*/) ? substr(row, RSTART, RLENGTH) : "Message"
@@ -92,29 +92,29 @@ awk -v shown="${1:-resheftal.h}" '
         if (named(file, $1) != "") mean(named(file, $1), number)
     }
     antt && $1 == "causes" && $2 == "=" { sub(/^[^=]*=/, ""); offsets("CAUSE_", $0, 0) }
-    antt && $1 == "partnerRow" && $3 == "=" { partner_size = $5 }
+    antt && $1 == "partner_row" && $3 == "=" { partner_size = $5 }
     antt && /^kinds =$/ { table = 1; next }
     table { sub(/ *--.*/, "") }
     table && /^ *∷/ { row_ended(); sub(/^ *∷ */, ""); if ($1 == "[]") { table = 0; mean("LONGEST_RECORD", longest) } else row = $0; next }
     table && row != "" { row = row " " $0 }
-    antt && $1 == "byPhase" && $2 ~ /^at/ && !phases { for (i = 2; $i ~ /^at/; i++) phase[++phases] = substr($i, 3) }
-    antt && /^phaseNumber = byPhase / { for (i = 1; i <= phases; i++) mean("PHASE_" snake(phase[i]), $(i + 3)) }
-    antt && /^directionNumber [A-Z][a-z]* = [0-9]$/ { mean("DIRECTION_" snake($2), $4) }
+    antt && $1 == "by_phase" && $2 ~ /^at/ && !phases { for (i = 2; $i ~ /^at/; i++) phase[++phases] = substr($i, 3) }
+    antt && /^phase_number = by_phase / { for (i = 1; i <= phases; i++) mean("PHASE_" snake(phase[i]), $(i + 3)) }
+    antt && /^direction_number [A-Z][a-z]* = [0-9]$/ { mean("DIRECTION_" snake($2), $4) }
     # the image: its kind, the head, the places, the tries, the last known RBC
-    antt && /^headBytes s =$/ { head = 1; next }
+    antt && /^head_bytes s =$/ { head = 1; next }
     head { list = list " " $0; if (/\[\]/) { offsets("AT_", list, 1); head = 0 } }
-    antt && /^ *onHolding \(replicate placeSize [0-9]\) \(λ d ph p[.] / {
+    antt && /^ *on_holding \(replicate place_size [0-9]\) \(λ d ph p[.] / {
         mean("PHASE_FREE", substr($4, 1, 1))
         sub(/^.*λ d ph p[.] /, ""); sub(/\).*/, ""); offsets("PLACE_", $0, 0)
     }
-    antt && /^bodyBytes s = headBytes s [+][+] blocks placeBytes \(s [.]places\)$/ { behind_head = 1 }
-    antt && /^wholeBytes s = bodyBytes s [+][+] \(s [.]limits [.]tries ∷ lastBytes \(s [.]last\)\)$/ { behind_places = 1 }
-    antt && /^imageA2 s = kindA2 ∷ wholeBytes s$/ { behind_kind = 1 }
+    antt && /^body_bytes s = head_bytes s [+][+] blocks place_bytes \(s [.]places\)$/ { behind_head = 1 }
+    antt && /^whole_bytes s = body_bytes s [+][+] \(s [.]limits [.]tries ∷ last_bytes \(s [.]last\)\)$/ { behind_places = 1 }
+    antt && /^image_a2 s = kind_a2 ∷ whole_bytes s$/ { behind_kind = 1 }
 
     file ~ /\.h$/ && !laid {
-        laid = 1; at = 1 + value["headSize"]
+        laid = 1; at = 1 + value["head_size"]
         if (behind_kind && behind_head) mean("AT_PLACES", at)
-        at += value["placeCount"] * value["placeSize"]
+        at += value["place_count"] * value["place_size"]
         if (behind_kind && behind_head && behind_places) { mean("AT_TRIES", at); mean("AT_LAST", at + 1) }
     }
     file ~ /\.h$/ && $1 == "#define" && $2 != "RESHEFTAL_H" {

@@ -5,7 +5,7 @@ set -eu
 cd "$(dirname "$0")"
 . ./tools.sh
 library
-out=../target/firmware
+out=out
 mkdir -p "$out"
 "$gcc" -std=c99 -O2 -Wall -Wextra -o "$out/example_c" example.c "$archive" "$asks"
 run "$out/example_c" >"$out/example_c.said"
@@ -22,7 +22,7 @@ wrong=0
 must_refuse() {
     sed "$2" example.c >"$out/example.c"
     if cmp -s example.c "$out/example.c"; then echo "nothing is changed: $1" >&2; exit 1; fi
-    "$gcc" -std=c99 -O2 -w -I. -I"$out" -DEXAMPLE='"../target/firmware/example.c"' -o "$out/test_wrong" test_example.c "$archive" "$asks"
+    "$gcc" -std=c99 -O2 -w -I. -I"$out" -DEXAMPLE='"out/example.c"' -o "$out/test_wrong" test_example.c "$archive" "$asks"
     status=0
     run "$out/test_wrong" >"$out/test_wrong.said" || status=$?
     [ "$status" -eq 1 ] || { echo "not refused, exit $status: $1" >&2; exit 1; }

@@ -1,8 +1,8 @@
 # Sourced by scripts that stand in a folder of the root, this one or another: finds the tools for x86-64, for which the library is
 # compiled, and the two libraries. Sets gcc, prefix (of nm, size and objdump), archive (cold start and step), asks (what is asked beside a
 # step); run runs a program, through qemu-x86_64 where the processor is no x86-64.
-archive=../target/staticlib/libfirmware.a
-asks=../target/staticlib/libasks.a
+archive=../firmware/out/libfirmware.a
+asks=../firmware/out/libasks.a
 
 need() {
     command -v "$1" >/dev/null || { echo "missing: $1 ($2)" >&2; exit 2; }
@@ -25,11 +25,14 @@ fi
 # Proves and builds each of them where it is not built, or is older than the sources.
 library() {
     for built in "$archive" "$asks"; do
-        if [ ! -f "$built" ] || [ -n "$(find ../crates ../crates.txt \( -name '*.rt' -o -name '*.antt' -o -name crates.txt \) -newer "$built")" ]; then
+        if [ ! -f "$built" ] || [ -n "$(find ../crates ../crates.txt -name out -prune -o \( -name '*.rt' -o -name '*.antt' -o -name crates.txt \) -newer "$built" -print)" ]; then
             need rt "the Rattle toolchain: builds $built"
             echo "proving and building ${built##*/}, some minutes the first time"
-            built=${built##*/lib}
-            said=$(cd .. && rt staticlib "${built%.a}" 2>&1) || { echo "$said" >&2; exit 1; }
+            crate=${built##*/lib}
+            crate=${crate%.a}_c
+            said=$(cd "../crates/$crate" && rt lib 2>&1) || { echo "$said" >&2; exit 1; }
+            mkdir -p ../firmware/out
+            cp "../crates/$crate/out/lib$crate.a" "$built"
         fi
     done
 }

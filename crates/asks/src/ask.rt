@@ -23,16 +23,14 @@ fn minus(code: u8) -> i32
 }
 
 // The number of the interface that this library has.
-#[unsafe(no_mangle)]
-pub extern "C" fn resheftal_interface() -> u32
+pub fn resheftal_interface() -> u32
     ensures { result ≡ interface_number }
 {
     INTERFACE
 }
 
 // Whether an image A2 reads: 0, or minus the refusal, 1 (empty), 2, 1 (length), 11, the first that applies.
-#[unsafe(no_mangle)]
-pub extern "C" fn resheftal_reads(image: &[u8]) -> i32
+pub fn resheftal_reads(image: &[u8]) -> i32
     ensures { result ≡ reads_returned image.now }
 {
     let found = read_a2(image);
@@ -52,8 +50,7 @@ fn told(standing: Standing) -> i32
 
 // Where the partner of a record stands, of which a step on this image would say so, with refusal 5 or a partner's 7: 16 times its place,
 // plus its phase; 0 where a step would say nothing; minus the refusal, as for reading, where the image does not read.
-#[unsafe(no_mangle)]
-pub extern "C" fn resheftal_standing(image: &[u8], bytes: &[u8]) -> i32
+pub fn resheftal_standing(image: &[u8], bytes: &[u8]) -> i32
     ensures { result ≡ standing_returned image.now bytes.now }
 {
     let held = read_a2(image);

@@ -18,13 +18,7 @@ fn byte_of(n: u32) -> u8
 // Writes the image A2 of a cold start with the two X numbers and the number of tries to the front of a buffer. Answers 0, or minus the
 // refusal: 13 where an X is over 7, the lowest is over the highest, or the tries are not 1 to 9, then 10 where the buffer has under 42
 // bytes. A refused call writes nothing; later bytes stay.
-#[unsafe(no_mangle)]
-pub extern "C" fn resheftal_cold_start(
-    lowest: u32,
-    highest: u32,
-    tries: u32,
-    image: &mut [u8],
-) -> i32
+pub fn resheftal_cold_start(lowest: u32, highest: u32, tries: u32, image: &mut [u8]) -> i32
     ensures { (result ≡ start_returned (limits_of lowest highest tries) (length image.old))
         × (image.new ≡ start_image (limits_of lowest highest tries) image.old) }
 {

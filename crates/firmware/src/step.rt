@@ -1,4 +1,4 @@
-// One step on a stored image, called from C.
+// One step on a stored image, as C calls it.
 ghost use Rattle.std.specs.Prelude.{◌≡◌, ◌≤◌, pos, neg_ℤ};
 ghost use Rattle.std.specs.Int.{w32};
 ghost use Rattle.std.proofs.Common.{SFits};
@@ -26,8 +26,7 @@ fn number(count: usize) -> i32
 // One step on a stored image A2: an event record in, the actions out, and the image then holds the next state. Answers the number of
 // actions, or minus the refusal: 10 where the action buffer has under 20 bytes, then 1, 2, 1, 11 as for reading, then 1, 2, 1, 3 and
 // those of the event. A refused call writes neither image nor actions; later bytes of the action buffer stay.
-#[unsafe(no_mangle)]
-pub extern "C" fn resheftal_step(image: &mut [u8], bytes: &[u8], actions: &mut [u8]) -> i32
+pub fn resheftal_step(image: &mut [u8], bytes: &[u8], actions: &mut [u8]) -> i32
     ensures { (result ≡ (seen_after image.old bytes.now actions.old).number)
         × (image.new ≡ (seen_after image.old bytes.now actions.old).image)
         × (actions.new ≡ (seen_after image.old bytes.now actions.old).actions) }

@@ -9,7 +9,7 @@ use Rattle.record.proofs.partner.Partner.is_reserved.Reads as partner-is-reserve
 use Rattle.record.proofs.partner.Partner.can_be_named.Reads as partner-can-be-named
 use Rattle.record.proofs.read.length_of.Reads as length-of
 use Rattle.record.proofs.read.read.Reads as read
-use Rattle.record.proofs.take.front_at.Reads as Front-at
+use Rattle.record.proofs.take.front_at.Reads as front-at
 use Rattle.record.proofs.take.take_one.Reads as take-one
 use Rattle.record.proofs.take.take.Reads as take
 
@@ -56,8 +56,8 @@ pub read-once : (κ : _) (s : _) (r₁ : _) (r₂ : _)
 read-once κ s r₁ r₂ p q = p ∙ sym q
 
 pub front-at-once : (κ : _) (log : _) (at : _) (r₁ : _) (r₂ : _)
-    → Front-at.Post κ (log, (at, tt)) r₁ (log, (at, tt))
-    → Front-at.Post κ (log, (at, tt)) r₂ (log, (at, tt))
+    → front-at.Post κ (log, (at, tt)) r₁ (log, (at, tt))
+    → front-at.Post κ (log, (at, tt)) r₂ (log, (at, tt))
     → r₁ ≡ r₂
 front-at-once κ log at r₁ r₂ p q = p ∙ sym q
 

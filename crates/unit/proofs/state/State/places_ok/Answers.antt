@@ -1,0 +1,32 @@
+-- The places passed are sound, and their partners have no higher place.
+use Rattle.std.proofs.Common.{arith, ◌<◌, length, refl, sym, ◌∙◌}
+use Rattle.unit.proofs.FourPlaces.{four-places}
+use Rattle.unit.proofs.Tested.{ok_end, ok-more, ok-bad, ok-twice}
+use Rattle.unit.proofs.state.State.places_ok.Goals as goal
+
+pub loop-i-preserved : goal.loop-i-preserved
+loop-i-preserved c =
+    let four = four-places c.args.self c.well_formed.0 in
+    let under : c.loop-i.i < length c.args.self.places = omega (arith, four) in
+    let good = sym c.is_sound.ensures ∙ c.if-is_sound.true in
+    let alone = sym c.absent_above.ensures ∙ c.if-absent_above.true in
+    (omega arith, ok-more c.args.self.limits c.args.self.places _ c.loop-i.invariant.1 under good alone)
+
+pub returns-then-i-ge-PLACES : goal.returns-then-i-ge-PLACES
+returns-then-i-ge-PLACES c =
+    ok_end c.args.self.limits c.args.self.places c.loop-i.i c.loop-i.invariant.1
+    (omega (arith, four-places c.args.self c.well_formed.0))
+
+pub returns-else-absent_above : goal.returns-else-absent_above
+returns-else-absent_above c =
+    let four = four-places c.args.self c.well_formed.0 in
+    let under : c.loop-i.i < length c.args.self.places = omega (arith, four) in
+    let good = sym c.is_sound.ensures ∙ c.if-is_sound.true in
+    let twice = sym c.absent_above.ensures ∙ c.if-absent_above.false in
+    ok-twice c.args.self.limits c.args.self.places _ c.loop-i.invariant.1 under good twice
+
+pub returns-else-is_sound : goal.returns-else-is_sound
+returns-else-is_sound c =
+    let four = four-places c.args.self c.well_formed.0 in
+    let under : c.loop-i.i < length c.args.self.places = omega (arith, four) in
+    ok-bad c.args.self.limits c.args.self.places _ c.loop-i.invariant.1 under (sym c.is_sound.ensures ∙ c.if-is_sound.false)
