@@ -1,6 +1,5 @@
 -- The parts are tested, up to the first that is not as it should be; four places there are.
-use Rattle.std.proofs.Common.{◌≡◌, ◌&&◌, Bool, true, false, refl, sym, ◌∙◌}
-use Rattle.unit.specs.States.{places_ok, sound}
+use Rattle.std.proofs.Common.{true, false, refl, sym, ◌∙◌}
 use Rattle.unit.proofs.FourPlaces.{four-places}
 use Rattle.unit.proofs.Tested.{sound-by}
 use Rattle.unit.proofs.state.State.is_sound.Goals as goal

@@ -8,10 +8,11 @@ pub loop-i-init : goal.loop-i-init
 loop-i-init c = (c.requires, refl)
 
 pub loop-i-preserved : goal.loop-i-preserved
-loop-i-preserved c =
-    (omega arith,
-      searched-more _ c.args.self.places _ _ c.loop-i.invariant.1 (omega (arith, four-places c.args.self c.well_formed.0))
-      (sym c.holds.ensures ∙ c.if-holds.false))
+loop-i-preserved c = (
+  omega arith,
+  searched-more _ c.args.self.places _ _ c.loop-i.invariant.1 (omega (arith, four-places c.args.self c.well_formed.0))
+      (sym c.holds.ensures ∙ c.if-holds.false),
+)
 
 pub returns-then-i-ge-PLACES : goal.returns-then-i-ge-PLACES
 returns-then-i-ge-PLACES c =

@@ -1,5 +1,5 @@
 -- The places passed are sound, and their partners have no higher place.
-use Rattle.std.proofs.Common.{arith, ◌<◌, length, refl, sym, ◌∙◌}
+use Rattle.std.proofs.Common.{arith, ◌<◌, length, sym, ◌∙◌}
 use Rattle.unit.proofs.FourPlaces.{four-places}
 use Rattle.unit.proofs.Tested.{ok_end, ok-more, ok-bad, ok-twice}
 use Rattle.unit.proofs.state.State.places_ok.Goals as goal
