@@ -220,15 +220,22 @@ first_alike : (s : State)
     → First x ys zs
     → Alike (after (next s x) (records_of zs)) (after s (records_of ys))
 unfolding after
-first_alike s ok {x} (at y ys same) =
-    let moved = ap (λ bytes. after (on_record s bytes action_room).state (records_of ys)) same in
-    (ap (λ t. t.limits) moved, ap (λ t. t.train) moved, ap (λ t. t.marks) moved, ap (λ t. t.places) moved)
-first_alike s ok {x} (past y {ys} {zs} other first) =
-    let both = next-sound (next s x) (next-sound s ok x) y in
-    let either = next-sound (next s y) (next-sound s ok y) x in
-    alike_same (after (next (next s x) y) (records_of zs)) (after (next (next s y) x) (records_of zs)) (after (next s y) (records_of ys))
-    (alike-after (next (next s x) y) (next (next s y) x) both either (either-alike s ok x y other) zs)
-    (first_alike (next s y) (next-sound s ok y) first)
+first_alike s ok {x} first = by x s ok first
+  where
+    by : (x : Delivered) (s : State)
+        → sound s ≡ true
+        → {ys zs : List Delivered}
+        → First x ys zs
+        → Alike (after (next s x) (records_of zs)) (after s (records_of ys))
+    by x s ok (at y ys same) =
+        let moved = ap (λ bytes. after (on_record s bytes action_room).state (records_of ys)) same in
+        (ap (λ t. t.limits) moved, ap (λ t. t.train) moved, ap (λ t. t.marks) moved, ap (λ t. t.places) moved)
+    by x s ok (past y {ys} {zs} other first) =
+        let both = next-sound (next s x) (next-sound s ok x) y in
+        let either = next-sound (next s y) (next-sound s ok y) x in
+        alike_same (after (next (next s x) y) (records_of zs)) (after (next (next s y) x) (records_of zs)) (after (next s y) (records_of ys))
+        (alike-after (next (next s x) y) (next (next s y) x) both either (either-alike s ok x y other) zs)
+        (by x (next s y) (next-sound s ok y) first)
 
 -- "give the same state in either order": so does every mixture of the same rows, the last known RBC left out
 -- promise
@@ -328,11 +335,20 @@ first-same : (s : State)
     → versions (of_partner p ys) ≡ versions ys
     → after (next s x) (records_of zs) ≡ after s (records_of ys)
 unfolding after
-first-same s ok p {x} (at y ys same) mine all = ap (λ bytes. after (on_record s bytes action_room).state (records_of ys)) same
-first-same s ok p {x} (past y {ys} {zs} other first) mine all =
-    let theirs = versions-own p y ys all in
-    ap (λ t. after t (records_of zs)) (either_same s ok x y other (not-two p x y other mine theirs.0))
-    ∙ first-same (next s y) (next-sound s ok y) p first mine theirs.1
+first-same s ok p {x} first mine all = by p x s ok first mine all
+  where
+    by : (p : Partner) (x : Delivered) (s : State)
+        → sound s ≡ true
+        → {ys zs : List Delivered}
+        → First x ys zs
+        → (is_version x.event ≡ true → same_partner p x.partner ≡ true)
+        → versions (of_partner p ys) ≡ versions ys
+        → after (next s x) (records_of zs) ≡ after s (records_of ys)
+    by p x s ok (at y ys same) mine all = ap (λ bytes. after (on_record s bytes action_room).state (records_of ys)) same
+    by p x s ok (past y {ys} {zs} other first) mine all =
+        let theirs = versions-own p y ys all in
+        ap (λ t. after t (records_of zs)) (either_same s ok x y other (not-two p x y other mine theirs.0))
+        ∙ by p x (next s y) (next-sound s ok y) first mine theirs.1
 
 -- and the whole state where every message 32 of the row is one partner's, however many it has
 -- promise

@@ -2,9 +2,9 @@
 // A million events through the On-Sight procedure, for counting instructions: prints a sum of all that was answered.
 ghost use Rattle.std.specs.Prelude.{◌≤◌};
 
-use libc::STDOUT_FILENO;
 use onsight::event::{Area, Event, Mode};
 use onsight::procedure::State;
+use std::io;
 
 const EVENTS: u64 = 1000000;
 
@@ -68,7 +68,7 @@ fn restarted(state: State, x: u64) -> State {
     state
 }
 
-fn main() {
+fn main(rt: HostRuntime) -> io::Result<()> {
     let mut x: u64 = 1;
     let mut state = State::fresh();
     let mut sum: u64 = 0;
@@ -81,6 +81,5 @@ fn main() {
         state = restarted(next, x);
         i += 1;
     }
-    io::print_decimal(STDOUT_FILENO, sum);
-    io::write_all(STDOUT_FILENO, b"\n");
+    println!(rt; "{sum}")
 }

@@ -1,9 +1,9 @@
 #![tactic(auto)]
 // Prints the table and the diagram of docs/ONSIGHT.md: the On-Sight procedure is stepped in every state with every event. A column is one
 // event, or several that are answered alike; where they are not, their cell says so.
-use libc::STDOUT_FILENO;
 use onsight::event::{Area, Event, Mode};
 use onsight::procedure::{Answer, State};
+use std::io;
 
 const ACCEPTED: u8 = 0;
 
@@ -25,31 +25,27 @@ enum Column {
     Expiry,
 }
 
-fn print(word: &[u8]) {
-    io::write_all(STDOUT_FILENO, word);
-}
-
-fn print_state(state: State) {
+fn state_word(state: State) -> &'static str {
     match state {
-        State::Idle => print(b"Idle"),
-        State::Waiting => print(b"Waiting"),
-        State::Asked => print(b"Asked"),
-        State::Late => print(b"Late"),
-        State::Braking => print(b"Braking"),
-        State::Done => print(b"Done"),
+        State::Idle => "Idle",
+        State::Waiting => "Waiting",
+        State::Asked => "Asked",
+        State::Late => "Late",
+        State::Braking => "Braking",
+        State::Done => "Done",
     }
 }
 
-fn print_column(column: Column) {
+fn column_words(column: Column) -> &'static str {
     match column {
-        Column::Ahead => print(b"a profile, the area ahead"),
-        Column::InOs => print(b"a profile, the area entered, for OS"),
-        Column::InSbOrPt => print(b"a profile, the area entered, for SB or PT"),
-        Column::InAnother => print(b"a profile, the area entered, for another mode"),
-        Column::Window => print(b"front and speed in the window"),
-        Column::Start => print(b"the safe front passing the start"),
-        Column::Acknowledgement => print(b"driver acknowledgement"),
-        Column::Expiry => print(b"timer expiry"),
+        Column::Ahead => "a profile, the area ahead",
+        Column::InOs => "a profile, the area entered, for OS",
+        Column::InSbOrPt => "a profile, the area entered, for SB or PT",
+        Column::InAnother => "a profile, the area entered, for another mode",
+        Column::Window => "front and speed in the window",
+        Column::Start => "the safe front passing the start",
+        Column::Acknowledgement => "driver acknowledgement",
+        Column::Expiry => "timer expiry",
     }
 }
 
@@ -109,79 +105,70 @@ fn takes(state: State, column: Column) -> bool {
 }
 
 // The state that the column gives, or "no".
-fn print_next(answer: Answer) {
-    let code = answer.code;
-    let state = answer.state;
-    match code {
-        ACCEPTED => print_state(state),
-        NOT_TAKEN_HERE => print(b"no"),
-        _ => print(b"not alike"),
+fn next_word(answer: Answer) -> &'static str {
+    match answer.code {
+        ACCEPTED => state_word(answer.state),
+        NOT_TAKEN_HERE => "no",
+        _ => "not alike",
     }
 }
 
-fn cell(state: State, column: Column) {
-    print(b" ");
-    print_next(stepped(state, column));
-    print(b" |");
+// Every column, in the order of the table.
+fn columns() -> [Column; 8] {
+    [
+        Column::Ahead,
+        Column::InOs,
+        Column::InSbOrPt,
+        Column::InAnother,
+        Column::Window,
+        Column::Start,
+        Column::Acknowledgement,
+        Column::Expiry,
+    ]
 }
 
-fn head(column: Column) {
-    print(b" ");
-    print_column(column);
-    print(b" |");
+// Every state, the fresh one first.
+fn states() -> [State; 6] {
+    [
+        State::fresh(),
+        State::Waiting,
+        State::Asked,
+        State::Late,
+        State::Braking,
+        State::Done,
+    ]
 }
 
-fn heads() {
-    print(b"| |");
-    head(Column::Ahead);
-    head(Column::InOs);
-    head(Column::InSbOrPt);
-    head(Column::InAnother);
-    head(Column::Window);
-    head(Column::Start);
-    head(Column::Acknowledgement);
-    head(Column::Expiry);
-    print(b" OS in force | service brake |\n|---|---|---|---|---|---|---|---|---|---|---|\n");
-}
-
-fn flags(state: State) {
-    if state.os_in_force() {
-        print(b" yes |");
-    } else {
-        print(b" no |");
+fn heads(rt: &impl Print) -> io::Result<()> {
+    print!(rt; "| |")?;
+    for column in columns() {
+        print!(rt; " {} |", column_words(column))?;
     }
-    if state.service_brake() {
-        print(b" on |\n");
-    } else {
-        print(b" off |\n");
+    println!(rt; " OS in force | service brake |")?;
+    println!(rt; "|---|---|---|---|---|---|---|---|---|---|---|")
+}
+
+fn flags(rt: &impl Print, state: State) -> io::Result<()> {
+    let in_force = if state.os_in_force() { "yes" } else { "no" };
+    let brake = if state.service_brake() { "on" } else { "off" };
+    println!(rt; " {in_force} | {brake} |")
+}
+
+fn row(rt: &impl Print, state: State) -> io::Result<()> {
+    print!(rt; "| {} |", state_word(state))?;
+    for column in columns() {
+        print!(rt; " {} |", next_word(stepped(state, column)))?;
     }
+    flags(rt, state)
 }
 
-fn row(state: State) {
-    print(b"| ");
-    print_state(state);
-    print(b" |");
-    cell(state, Column::Ahead);
-    cell(state, Column::InOs);
-    cell(state, Column::InSbOrPt);
-    cell(state, Column::InAnother);
-    cell(state, Column::Window);
-    cell(state, Column::Start);
-    cell(state, Column::Acknowledgement);
-    cell(state, Column::Expiry);
-    flags(state);
-}
-
-fn arrow(state: State, column: Column) {
+fn arrow(rt: &impl Print, state: State, column: Column) -> io::Result<()> {
     if takes(state, column) {
-        print(b"    ");
-        print_state(state);
-        print(b" --> ");
-        print_next(stepped(state, column));
-        print(b": ");
-        print_column(column);
-        print(b"\n");
+        let from = state_word(state);
+        let to = next_word(stepped(state, column));
+        println!(rt; "    {from} --> {to}: {}", column_words(column))?;
     }
+    Ok(())
 }
 
 fn takes_profile(state: State) -> bool {
@@ -211,72 +198,56 @@ fn takes_more(state: State) -> bool {
 }
 
 // A state that takes nothing is an end.
-fn end(state: State) {
+fn end(rt: &impl Print, state: State) -> io::Result<()> {
     if takes_profile(state) {
-        return;
+        return Ok(());
     }
     if takes_more(state) {
-        return;
+        return Ok(());
     }
-    print(b"    ");
-    print_state(state);
-    print(b" --> [*]\n");
+    println!(rt; "    {} --> [*]", state_word(state))
 }
 
-fn arrows(state: State) {
-    arrow(state, Column::Ahead);
-    arrow(state, Column::InOs);
-    arrow(state, Column::InSbOrPt);
-    arrow(state, Column::InAnother);
-    arrow(state, Column::Window);
-    arrow(state, Column::Start);
-    arrow(state, Column::Acknowledgement);
-    arrow(state, Column::Expiry);
-    end(state);
+fn arrows(rt: &impl Print, state: State) -> io::Result<()> {
+    for column in columns() {
+        arrow(rt, state, column)?;
+    }
+    end(rt, state)
 }
 
 // A line for a state in which something is in force.
-fn note(state: State) {
+fn note(rt: &impl Print, state: State) -> io::Result<()> {
     if state.os_in_force() {
-        print(b"    ");
-        print_state(state);
-        print(b": ");
-        print_state(state);
-        print(b", OS in force");
-        if state.service_brake() {
-            print(b", service brake on");
-        }
-        print(b"\n");
+        let word = state_word(state);
+        let brake = if state.service_brake() {
+            ", service brake on"
+        } else {
+            ""
+        };
+        println!(rt; "    {word}: {word}, OS in force{brake}")?;
     }
+    Ok(())
 }
 
-fn diagram() {
-    print(b"```mermaid\nstateDiagram-v2\n    [*] --> ");
-    print_state(State::fresh());
-    print(b"\n");
-    arrows(State::fresh());
-    arrows(State::Waiting);
-    arrows(State::Asked);
-    arrows(State::Late);
-    arrows(State::Braking);
-    arrows(State::Done);
-    note(State::fresh());
-    note(State::Waiting);
-    note(State::Asked);
-    note(State::Late);
-    note(State::Braking);
-    note(State::Done);
-    print(b"```\n");
+fn diagram(rt: &impl Print) -> io::Result<()> {
+    println!(rt;
+        "```mermaid\nstateDiagram-v2\n    [*] --> {}",
+        state_word(State::fresh())
+    )?;
+    for state in states() {
+        arrows(rt, state)?;
+    }
+    for state in states() {
+        note(rt, state)?;
+    }
+    println!(rt; "```")
 }
 
-fn main() {
-    heads();
-    row(State::fresh());
-    row(State::Waiting);
-    row(State::Asked);
-    row(State::Late);
-    row(State::Braking);
-    row(State::Done);
-    print(b"\n");
-    diagram();
+fn main(rt: HostRuntime) -> io::Result<()> {
+    heads(&rt)?;
+    for state in states() {
+        row(&rt, state)?;
+    }
+    println!(rt; "")?;
+    diagram(&rt)
 }
