@@ -1,5 +1,5 @@
 -- What is left to put are the characters from here on.
-use Rattle.std.proofs.Common.{◌+◌, [], ◌∷◌, length, get_or, drop, sym, ap, subst, ◌∙◌, add-one, drop-cons}
+use Rattle.std.proofs.Common.{◌+◌, [], ◌∷◌, get_or, drop, sym, ap, subst, ◌∙◌, add-one, drop-cons}
 use lib.ListN.{drop_of_length-le}
 use Rattle.text.proofs.Putting.{Putting, putting-next, putting-none}
 use Rattle.text.proofs.put_words.Goals as goal
