@@ -44,7 +44,7 @@ loop-i-preserved c =
     let wide = room self test c.loop-i.i four c.requires below in (
       omega arith,
       elim c.if-is_chosen.branch [
-        then-is_chosen w ↦
+        | then-is_chosen w ↦
             w.kept-is
             ∙ grown c.loop-i.kept (those test taken) c.loop-i.invariant.1 wide _ _ w.with-kept.ensures
             ∙ ap set_of (sym (those-next taken _ _ more test (sym c.is_chosen.ensures ∙ w.if-is_chosen.true)))

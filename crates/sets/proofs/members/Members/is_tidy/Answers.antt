@@ -20,7 +20,7 @@ loop-i-preserved c =
     let i = c.loop-i.i in
     let m = get_or s.items i no_member in
     let rest =
-        drop-cons s.items i no_member (omega (arith, four-items s c.well_formed.0)) ∙ ap (λ k. m ∷ drop k s.items) (sym (add-one i)) in
+    drop-cons s.items i no_member (omega (arith, four-items s c.well_formed.0)) ∙ ap (λ k. m ∷ drop k s.items) (sym (add-one i)) in
     (omega arith, c.loop-i.invariant.1 ∙ all_here _ _ m rest is_no_member (sym c.is_none.ensures ∙ c.if-is_none.true))
 
 pub returns-then-i-ge-MOST_MEMBERS : goal.returns-then-i-ge-MOST_MEMBERS

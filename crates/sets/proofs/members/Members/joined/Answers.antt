@@ -34,10 +34,11 @@ loop-i-preserved c =
     let below = c.loop-i-test.true in
     let taken = take c.loop-i.i (members_of other) in
     let more = held_next other (tidy-items other ok) (tidy-count other ok) c.loop-i.i below in
-    let wide = room c.args.self other c.loop-i.i c.requires.0 ok c.requires.2 below in
-    (omega arith,
+    let wide = room c.args.self other c.loop-i.i c.requires.0 ok c.requires.2 below in (
+      omega arith,
       grown c.loop-i.all (members_of c.args.self ++ taken) c.loop-i.invariant.1 wide _ _ c.with-all.ensures
-      ∙ ap set_of (joined-next taken _ _ more (members_of c.args.self)))
+          ∙ ap set_of (joined-next taken _ _ more (members_of c.args.self)),
+    )
 
 pub returns : goal.returns
 returns c =

@@ -40,11 +40,12 @@ loop-i-preserved c =
     let taken = take c.loop-i.i (members_of other) in
     let so_far = members_of c.args.self ++ map (tried first_try) taken in
     let more = held_next other (tidy-items other ok) (tidy-count other ok) c.loop-i.i below in
-    let wide = room c.args.self other c.loop-i.i c.requires.0 ok c.requires.2 below in
-    (omega arith,
+    let wide = room c.args.self other c.loop-i.i c.requires.0 ok c.requires.2 below in (
+      omega arith,
       grown c.loop-i.all so_far c.loop-i.invariant.1 wide _ _ c.with-all.ensures
-      ∙ ap (λ m. set_of (so_far ++ (m ∷ []))) c.tried.ensures
-      ∙ ap set_of (changed-next taken _ _ more (members_of c.args.self) (tried first_try)))
+          ∙ ap (λ m. set_of (so_far ++ (m ∷ []))) c.tried.ensures
+          ∙ ap set_of (changed-next taken _ _ more (members_of c.args.self) (tried first_try)),
+    )
 
 pub returns : goal.returns
 returns c =

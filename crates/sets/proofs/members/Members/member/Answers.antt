@@ -20,7 +20,7 @@ returns-else-at-self c =
     let self = c.args.self in
     let ms = members_of self in
     let over : length ms ≤ c.position-at.result =
-        omega (arith, held-length self (four-items self c.well_formed.0) c.requires, c.if-at-self.false) in
+    omega (arith, held-length self (four-items self c.well_formed.0) c.requires, c.if-at-self.false) in
     c.none.ensures
     ∙ sym (get_or-eq_default ms no_member over)
     ∙ ap (λ k. get_or ms k no_member) (omega (arith, c.position-at.ensures))
