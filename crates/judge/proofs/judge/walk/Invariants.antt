@@ -4,7 +4,7 @@ use Rattle.judge.proofs.Walks.{Judged}
 use Rattle.judge.proofs.judge.walk.Given as goal
 
 abbrev pub invariant-loop-stop : goal.invariant-loop-stop
-invariant-loop-stop l = Judged l.sheet l.start l.from l.state l.at l.records
+invariant-loop-stop l = Judged l.sheet l.fn.start l.from l.state l.at l.records
 
 abbrev pub decreases-loop-stop : goal.decreases-loop-stop
 decreases-loop-stop l = length l.sheet - l.at

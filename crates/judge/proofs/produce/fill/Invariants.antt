@@ -4,7 +4,7 @@ use Rattle.judge.proofs.Filling.{Filling}
 use Rattle.judge.proofs.produce.fill.Given as goal
 
 abbrev pub invariant-loop-length : goal.invariant-loop-length
-invariant-loop-length l = Filling l.log l.fn.room l.start l.room l.state l.at l.used
+invariant-loop-length l = Filling l.log l.fn.room l.fn.start l.room l.state l.at l.used
 
 abbrev pub decreases-loop-length : goal.decreases-loop-length
 decreases-loop-length l = length l.log - l.at

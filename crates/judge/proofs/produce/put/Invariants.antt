@@ -1,6 +1,6 @@
 -- The bytes passed are put.
 use Rattle.std.proofs.Common.{◌≡◌, ◌≤◌, ◌-◌, length}
-use Rattle.std.proofs.Math.Seq.{paste}
+use lib.Seq.{paste}
 use Rattle.judge.proofs.produce.put.Given as goal
 
 abbrev pub invariant-loop-i : goal.invariant-loop-i
