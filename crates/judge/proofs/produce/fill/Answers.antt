@@ -1,7 +1,7 @@
 -- The records passed are written with what follows them.
-use Rattle.std.proofs.Common.{◌≡◌, ◌+◌, ◌*◌, ◌≤◌, length, refl, sym, ◌∙◌, inl, inr, arith}
+use Rattle.std.proofs.Common.{◌≤◌, refl, sym, ◌∙◌, inl, inr, arith}
+use lib.Seq.{length-take-le}
 use Rattle.record.proofs.Takes.{part-is}
-use Rattle.unit.specs.OnRecords.{action_size}
 use Rattle.unit.specs.Forms.{most_actions}
 use Rattle.judge.proofs.Courses.{whole_part}
 use Rattle.judge.proofs.Entries.{answer-few, sent-inside}
@@ -35,9 +35,15 @@ slice_bounds-put_entry-end c =
     (whole_part c.args.log.now c.requires.0 c.loop-length.state c.loop-length.at c.in-Whole.length c.in-Whole.reading
     (sym c.take_one.ensures ∙ c.in-Whole.is)).1
 
-pub slice_bounds-put_entry-sent : goal.slice_bounds-put_entry-sent
-slice_bounds-put_entry-sent c =
+pub slice_bounds-buffer-end : goal.slice_bounds-buffer-end
+slice_bounds-buffer-end c =
     sent-inside c.loop-length.state _ _ c.on_record-stepped.ensures.0 _ _ c.on_record-stepped.ensures.1
+
+pub slice_bounds-put_entry-end-in-Whole : goal.slice_bounds-put_entry-end-in-Whole
+slice_bounds-put_entry-end-in-Whole c =
+    sym
+    (length-take-le _ c.on_record-stepped.new.actions
+    (sent-inside c.loop-length.state _ _ c.on_record-stepped.ensures.0 _ _ c.on_record-stepped.ensures.1))
 
 pub put_entry-used-requires : goal.put_entry-used-requires
 put_entry-used-requires c =

@@ -1,5 +1,5 @@
 -- The records passed are counted.
-use Rattle.std.proofs.Common.{◌≡◌, ◌+◌, ◌≤◌, sym, ◌∙◌, inl, inr, arith}
+use Rattle.std.proofs.Common.{◌+◌, ◌≤◌, sym, ◌∙◌, inl, inr, arith}
 use Rattle.record.specs.Takes.{longest_log}
 use Rattle.record.proofs.Takes.{part-is}
 use Rattle.unit.specs.Forms.{most_actions}

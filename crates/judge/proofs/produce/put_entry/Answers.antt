@@ -1,6 +1,5 @@
 -- The record, the two bytes of its answer, and its actions stand one behind the other.
 use Rattle.std.proofs.Common.{arith}
-use lib.ListN.{length-set}
 use Rattle.judge.specs.Sheets.{answer_kind}
 use Rattle.judge.proofs.Putting.{put-behind}
 use Rattle.judge.proofs.produce.put_entry.Goals as goal
