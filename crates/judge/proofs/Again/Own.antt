@@ -17,6 +17,7 @@ use Rattle.record.specs.Takes.{longest_log, take_one}
 use Rattle.record.specs.declared.take.Taken.TheVariants.{Stopped}
 use Rattle.place.specs.declared.limits.Limits.{Limits}
 use Rattle.unit.specs.States.{limits_ok, cold}
+use Rattle.unit.specs.Runs as runs
 use Rattle.unit.specs.Runs.{Course, stops, applies, fresh, tallied, run}
 use Rattle.unit.specs.RunWords.{steps_of}
 use Rattle.unit.specs.declared.run.Tally.{Tally}
@@ -55,7 +56,7 @@ counted (applies bytes o rest) = omega (arith, counted rest)
 stopped : (t : Tally) (c : Course) → course_stop c ≡ (tallied t c).stop
 unfolding course_stop tallied
 stopped t (stops stop) = refl
-stopped t (applies bytes o rest) = stopped _ rest
+stopped t (applies bytes o rest) = stopped (runs.counted t (length bytes) o) rest
 
 -- its records and its stop are those of the run over the whole log
 -- promise
