@@ -1,0 +1,12 @@
+-- There is room while fewer than four stand.
+use Rattle.std.proofs.Common.{◌≡◌, ◌≢◌, ℕ, ◌+◌, ◌-◌, ◌*◌, ◌<◌, ◌≤◌, Bool, true, false, not, ◌&&◌, ◌||◌, List, [], ◌∷◌, ◌++◌, length, get_or, take, drop, map, eqb, leb, cond, refl, sym, ap, ap₂, subst, ◌∙◌, rules, arith, eq-eqb, ne_eqb, le-leb, eqb-true, zero-add}
+use Rattle.shunter.proofs.Gathered.{gathered-more, gathered-count}
+use Rattle.shunter.proofs.answer.with_action.Goals as goal
+
+pub returns-then-count-lt-MOST_ACTIONS : goal.returns-then-count-lt-MOST_ACTIONS
+returns-then-count-lt-MOST_ACTIONS c acts few is =
+    gathered-more acts c.args.action c.args.actions few is
+
+pub returns-else-count-lt-MOST_ACTIONS : goal.returns-else-count-lt-MOST_ACTIONS
+returns-else-count-lt-MOST_ACTIONS c acts few is =
+    absurd (omega (arith, gathered-count acts c.args.actions is, c.if-count-lt-MOST_ACTIONS.false))

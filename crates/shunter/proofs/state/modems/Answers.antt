@@ -1,0 +1,9 @@
+-- One at most at each place.
+use Rattle.std.proofs.Common.{◌≡◌, ◌≢◌, ℕ, ◌+◌, ◌-◌, ◌*◌, ◌<◌, ◌≤◌, Bool, true, false, not, ◌&&◌, ◌||◌, List, [], ◌∷◌, ◌++◌, length, get_or, take, drop, map, eqb, leb, cond, refl, sym, ap, ap₂, subst, ◌∙◌, rules, arith, eq-eqb, ne_eqb, le-leb, eqb-true, zero-add}
+use Rattle.shunter.specs.Queues.{modems_held, sum_to}
+use Rattle.shunter.proofs.state.modems.Goals as goal
+
+pub returns : goal.returns
+unfolding modems_held sum_to
+returns c =
+    omega (arith, c.modem_at.ensures, c.modem_at-2.ensures, c.modem_at-3.ensures, c.modem_at-4.ensures)
