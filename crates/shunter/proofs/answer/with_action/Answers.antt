@@ -1,5 +1,5 @@
 -- There is room while fewer than four stand.
-use Rattle.std.proofs.Common.{◌≡◌, ◌≢◌, ℕ, ◌+◌, ◌-◌, ◌*◌, ◌<◌, ◌≤◌, Bool, true, false, not, ◌&&◌, ◌||◌, List, [], ◌∷◌, ◌++◌, length, get_or, take, drop, map, eqb, leb, cond, refl, sym, ap, ap₂, subst, ◌∙◌, rules, arith, eq-eqb, ne_eqb, le-leb, eqb-true, zero-add}
+use Rattle.std.proofs.Common.{arith}
 use Rattle.shunter.proofs.Gathered.{gathered-more, gathered-count}
 use Rattle.shunter.proofs.answer.with_action.Goals as goal
 

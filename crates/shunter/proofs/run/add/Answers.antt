@@ -1,5 +1,5 @@
 -- Each arm is one of the six actions.
-use Rattle.std.proofs.Common.{◌≡◌, ◌≢◌, ℕ, ◌+◌, ◌-◌, ◌*◌, ◌<◌, ◌≤◌, Bool, true, false, not, ◌&&◌, ◌||◌, List, [], ◌∷◌, ◌++◌, length, get_or, take, drop, map, eqb, leb, cond, refl, sym, ap, ap₂, subst, ◌∙◌, rules, arith, eq-eqb, ne_eqb, le-leb, eqb-true, zero-add}
+use Rattle.std.proofs.Common.{◌≡◌, ◌≢◌, ℕ, sym, ap, arith, ne_eqb}
 use Rattle.unit.specs.Counting.{added}
 use Rattle.unit.specs.declared.run.Totals.{Totals}
 use Rattle.shunter.proofs.run.add.Goals as goal

@@ -1,6 +1,5 @@
 -- The actions passed are counted.
-use Rattle.std.proofs.Common.{◌≡◌, ◌≢◌, ℕ, ◌+◌, ◌-◌, ◌*◌, ◌<◌, ◌≤◌, Bool, true, false, not, ◌&&◌, ◌||◌, List, [], ◌∷◌, ◌++◌, length, get_or, take, drop, map, eqb, leb, cond, refl, sym, ap, ap₂, subst, ◌∙◌, rules, arith, eq-eqb, ne_eqb, le-leb, eqb-true, zero-add}
-use Rattle.unit.specs.Counting.{most_total, Below}
+use Rattle.std.proofs.Common.{◌≡◌, length, take, sym, ap, ◌∙◌, rules, arith}
 use Rattle.unit.specs.Runs.{totalled}
 use Rattle.unit.proofs.Runs.Tallies.{totalled_none, below_more, added-below}
 use Rattle.shunter.proofs.ShunterCounts.{totalled-next}

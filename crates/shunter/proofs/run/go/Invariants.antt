@@ -1,5 +1,5 @@
 -- The records passed are the run so far.
-use Rattle.std.proofs.Common.{◌≡◌, ◌≢◌, ℕ, ◌+◌, ◌-◌, ◌*◌, ◌<◌, ◌≤◌, Bool, true, false, not, ◌&&◌, ◌||◌, List, [], ◌∷◌, ◌++◌, length, get_or, take, drop, map, eqb, leb, cond, refl, sym, ap, ap₂, subst, ◌∙◌, rules, arith, eq-eqb, ne_eqb, le-leb, eqb-true, zero-add}
+use Rattle.std.proofs.Common.{◌-◌}
 use Rattle.shunter.specs.ShunterRuns.{shunter_go}
 use Rattle.shunter.proofs.ShunterGoing.{Going}
 use Rattle.shunter.proofs.run.go.Given as goal

@@ -1,5 +1,5 @@
 -- The refusals in their order, then the records.
-use Rattle.std.proofs.Common.{◌≡◌, ◌≢◌, ℕ, ◌+◌, ◌-◌, ◌*◌, ◌<◌, ◌≤◌, Bool, true, false, not, ◌&&◌, ◌||◌, List, [], ◌∷◌, ◌++◌, length, get_or, take, drop, map, eqb, leb, cond, refl, sym, ap, ap₂, subst, ◌∙◌, rules, arith, eq-eqb, ne_eqb, le-leb, eqb-true, zero-add}
+use Rattle.std.proofs.Common.{sym, ◌∙◌, le-leb}
 use Rattle.std.proofs.lemmas.Bool.{lt-leb}
 use Rattle.wire.specs.Refusals.{not_sound, log_too_long}
 use Rattle.record.specs.Takes.{longest_log}

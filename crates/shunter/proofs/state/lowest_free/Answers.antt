@@ -1,5 +1,5 @@
 -- The places passed are held.
-use Rattle.std.proofs.Common.{◌≡◌, ◌≢◌, ℕ, ◌+◌, ◌-◌, ◌*◌, ◌<◌, ◌≤◌, Bool, true, false, not, ◌&&◌, ◌||◌, List, [], ◌∷◌, ◌++◌, length, get_or, take, drop, map, eqb, leb, cond, refl, sym, ap, ap₂, subst, ◌∙◌, rules, arith, eq-eqb, ne_eqb, le-leb, eqb-true, zero-add}
+use Rattle.std.proofs.Common.{refl, sym, ◌∙◌, arith, zero-add}
 use Rattle.unit.proofs.FourPlaces.{four-places}
 use Rattle.unit.proofs.Searches.{searched-more, searched-found, searched-none}
 use Rattle.shunter.proofs.state.lowest_free.Goals as goal

@@ -1,5 +1,5 @@
 -- By who waits: nobody, one or two.
-use Rattle.std.proofs.Common.{◌≡◌, ◌≢◌, ℕ, ◌+◌, ◌-◌, ◌*◌, ◌<◌, ◌≤◌, Bool, true, false, not, ◌&&◌, ◌||◌, List, [], ◌∷◌, ◌++◌, length, get_or, take, drop, map, eqb, leb, cond, refl, sym, ap, ap₂, subst, ◌∙◌, rules, arith, eq-eqb, ne_eqb, le-leb, eqb-true, zero-add}
+use Rattle.std.proofs.Common.{not, ◌&&◌, eqb, leb, sym, ap, ap₂, ◌∙◌}
 use Rattle.shunter.specs.Queues.{modem_count, no_place, just_ordered}
 use Rattle.shunter.proofs.Waits.{rules-none, rules-one, rules-two}
 use Rattle.shunter.proofs.state.rules_hold.Goals as goal

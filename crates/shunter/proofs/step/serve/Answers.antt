@@ -1,5 +1,4 @@
 -- By the modems that are free and by who waits.
-use Rattle.std.proofs.Common.{◌≡◌, ◌≢◌, ℕ, ◌+◌, ◌-◌, ◌*◌, ◌<◌, ◌≤◌, Bool, true, false, not, ◌&&◌, ◌||◌, List, [], ◌∷◌, ◌++◌, length, get_or, take, drop, map, eqb, leb, cond, refl, sym, ap, ap₂, subst, ◌∙◌, rules, arith, eq-eqb, ne_eqb, le-leb, eqb-true, zero-add}
 use Rattle.shunter.proofs.CodeLines.{serve-none, serve-nobody, serve-one, serve-first, serve-both}
 use Rattle.shunter.proofs.step.serve.Goals as goal
 

@@ -1,5 +1,4 @@
 -- Nobody, the first or the second.
-use Rattle.std.proofs.Common.{◌≡◌, ◌≢◌, ℕ, ◌+◌, ◌-◌, ◌*◌, ◌<◌, ◌≤◌, Bool, true, false, not, ◌&&◌, ◌||◌, List, [], ◌∷◌, ◌++◌, length, get_or, take, drop, map, eqb, leb, cond, refl, sym, ap, ap₂, subst, ◌∙◌, rules, arith, eq-eqb, ne_eqb, le-leb, eqb-true, zero-add}
 use Rattle.shunter.proofs.Queued.{joined-none, joined-first, joined-second}
 use Rattle.shunter.proofs.queue.Queue.joined.Goals as goal
 

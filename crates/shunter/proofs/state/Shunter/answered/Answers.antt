@@ -1,5 +1,4 @@
 -- The core accepts or refuses.
-use Rattle.std.proofs.Common.{◌≡◌, ◌≢◌, ℕ, ◌+◌, ◌-◌, ◌*◌, ◌<◌, ◌≤◌, Bool, true, false, not, ◌&&◌, ◌||◌, List, [], ◌∷◌, ◌++◌, length, get_or, take, drop, map, eqb, leb, cond, refl, sym, ap, ap₂, subst, ◌∙◌, rules, arith, eq-eqb, ne_eqb, le-leb, eqb-true, zero-add}
 use Rattle.shunter.proofs.Answers.{answered-sent, answered-refused}
 use Rattle.shunter.proofs.state.Shunter.answered.Goals as goal
 

@@ -1,5 +1,5 @@
 -- The refusals in their order, then the answer to the core's.
-use Rattle.std.proofs.Common.{◌≡◌, ◌≢◌, ℕ, ◌+◌, ◌-◌, ◌*◌, ◌<◌, ◌≤◌, Bool, true, false, not, ◌&&◌, ◌||◌, List, [], ◌∷◌, ◌++◌, length, get_or, take, drop, map, eqb, leb, cond, refl, sym, ap, ap₂, subst, ◌∙◌, rules, arith, eq-eqb, ne_eqb, le-leb, eqb-true, zero-add}
+use Rattle.std.proofs.Common.{sym, ap, ◌∙◌}
 use Rattle.record.specs.declared.event.Reading.TheVariants.{Meant, Refused}
 use Rattle.wire.specs.Refusals.{not_sound}
 use Rattle.shunter.specs.Shunting.{shunt_refused_at, shunted}

@@ -1,5 +1,5 @@
 -- 17 where the core accepts and all modems are held.
-use Rattle.std.proofs.Common.{◌≡◌, ◌≢◌, ℕ, ◌+◌, ◌-◌, ◌*◌, ◌<◌, ◌≤◌, Bool, true, false, not, ◌&&◌, ◌||◌, List, [], ◌∷◌, ◌++◌, length, get_or, take, drop, map, eqb, leb, cond, refl, sym, ap, ap₂, subst, ◌∙◌, rules, arith, eq-eqb, ne_eqb, le-leb, eqb-true, zero-add}
+use Rattle.std.proofs.Common.{◌≡◌, Bool, true, false, ◌&&◌, eqb, leb, sym, ap, ◌∙◌, eqb-true}
 use Rattle.wire.specs.Refusals.{accepted}
 use Rattle.wire.proofs.Tests.{and_left, and_right}
 use Rattle.unit.specs.Forms.{packed}

@@ -1,5 +1,5 @@
 -- Those that still have their places join, then the newcomer.
-use Rattle.std.proofs.Common.{◌≡◌, ◌≢◌, ℕ, ◌+◌, ◌-◌, ◌*◌, ◌<◌, ◌≤◌, Bool, true, false, not, ◌&&◌, ◌||◌, List, [], ◌∷◌, ◌++◌, length, get_or, take, drop, map, eqb, leb, cond, refl, sym, ap, ap₂, subst, ◌∙◌, rules, arith, eq-eqb, ne_eqb, le-leb, eqb-true, zero-add}
+use Rattle.std.proofs.Common.{◌≡◌, ◌≤◌, ◌++◌, length, sym, ap, ap₂, subst, ◌∙◌}
 use Rattle.shunter.specs.Queues.{modem_count, somebody, waiting, queued}
 use Rattle.shunter.specs.Sending.{line_after}
 use Rattle.shunter.proofs.CodeLines.{joined-three, waiting_kept}

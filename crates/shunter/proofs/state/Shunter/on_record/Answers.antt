@@ -1,5 +1,5 @@
 -- The buffer's length, then the step, then what it sends.
-use Rattle.std.proofs.Common.{◌≡◌, ◌≢◌, ℕ, ◌+◌, ◌-◌, ◌*◌, ◌<◌, ◌≤◌, Bool, true, false, not, ◌&&◌, ◌||◌, List, [], ◌∷◌, ◌++◌, length, get_or, take, drop, map, eqb, leb, cond, refl, sym, ap, ap₂, subst, ◌∙◌, rules, arith, eq-eqb, ne_eqb, le-leb, eqb-true, zero-add}
+use Rattle.std.proofs.Common.{arith}
 use Rattle.shunter.proofs.ShunterSent.{sent-few, sent-answer, sent-written, short-answer, short-written}
 use Rattle.shunter.proofs.state.Shunter.on_record.Goals as goal
 

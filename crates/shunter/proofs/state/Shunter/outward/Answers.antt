@@ -1,9 +1,7 @@
 -- The actions looked at are gathered, but the releases of those that wait.
-use Rattle.std.proofs.Common.{◌≡◌, ◌≢◌, ℕ, ◌+◌, ◌-◌, ◌*◌, ◌<◌, ◌≤◌, Bool, true, false, not, ◌&&◌, ◌||◌, List, [], ◌∷◌, ◌++◌, length, get_or, take, drop, map, eqb, leb, cond, refl, sym, ap, ap₂, subst, ◌∙◌, rules, arith, eq-eqb, ne_eqb, le-leb, eqb-true, zero-add}
+use Rattle.std.proofs.Common.{◌≡◌, ◌<◌, ◌&&◌, length, get_or, take, eqb, sym, ap, ◌∙◌, rules, arith}
 use Rattle.place.specs.Table.{release}
-use Rattle.record.specs.declared.partner.Partner.{Partner}
 use Rattle.unit.specs.Forms.{most_actions, no_action, listed}
-use Rattle.unit.specs.declared.answer.Action.{Action}
 use Rattle.shunter.specs.Queues.{waiting}
 use Rattle.shunter.specs.Shunting.{kept, waits_for}
 use Rattle.shunter.specs.Sending.{outward}

@@ -1,5 +1,5 @@
 -- The actions looked at are gathered, but the releases of those that wait.
-use Rattle.std.proofs.Common.{◌≡◌, ◌≢◌, ℕ, ◌+◌, ◌-◌, ◌*◌, ◌<◌, ◌≤◌, Bool, true, false, not, ◌&&◌, ◌||◌, List, [], ◌∷◌, ◌++◌, length, get_or, take, drop, map, eqb, leb, cond, refl, sym, ap, ap₂, subst, ◌∙◌, rules, arith, eq-eqb, ne_eqb, le-leb, eqb-true, zero-add}
+use Rattle.std.proofs.Common.{◌≡◌, ◌-◌, ◌≤◌, take}
 use Rattle.unit.specs.Forms.{listed}
 use Rattle.shunter.specs.Queues.{waiting}
 use Rattle.shunter.specs.Shunting.{waits_for}

@@ -1,5 +1,5 @@
 -- The line, the free modems, what goes out, and who is served.
-use Rattle.std.proofs.Common.{◌≡◌, ◌≢◌, ℕ, ◌+◌, ◌-◌, ◌*◌, ◌<◌, ◌≤◌, Bool, true, false, not, ◌&&◌, ◌||◌, List, [], ◌∷◌, ◌++◌, length, get_or, take, drop, map, eqb, leb, cond, refl, sym, ap, ap₂, subst, ◌∙◌, rules, arith, eq-eqb, ne_eqb, le-leb, eqb-true, zero-add}
+use Rattle.std.proofs.Common.{◌≡◌, ◌-◌, take, arith}
 use Rattle.shunter.specs.Queues.{modem_count, waiting}
 use Rattle.shunter.specs.Sending.{line_after}
 use Rattle.shunter.proofs.Sends.{line-named, sent-by}

@@ -1,5 +1,5 @@
 -- The place in one half of the queue or the other.
-use Rattle.std.proofs.Common.{◌≡◌, ◌≢◌, ℕ, ◌+◌, ◌-◌, ◌*◌, ◌<◌, ◌≤◌, Bool, true, false, not, ◌&&◌, ◌||◌, List, [], ◌∷◌, ◌++◌, length, get_or, take, drop, map, eqb, leb, cond, refl, sym, ap, ap₂, subst, ◌∙◌, rules, arith, eq-eqb, ne_eqb, le-leb, eqb-true, zero-add}
+use Rattle.std.proofs.Common.{◌≡◌, ◌||◌, length, sym, ap, ap₂, ◌∙◌, rules}
 use Rattle.place.specs.Places.{holds}
 use Rattle.shunter.proofs.Waits.{waits-is}
 use Rattle.shunter.proofs.state.Shunter.waits.Goals as goal
