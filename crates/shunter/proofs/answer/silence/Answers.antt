@@ -5,5 +5,4 @@ use Rattle.shunter.proofs.answer.silence.Goals as goal
 
 pub returns : goal.returns
 unfolding listed
-returns c =
-    refl
+returns c = refl

@@ -1,13 +1,11 @@
 -- The actions passed are written.
-use Rattle.std.proofs.Common.{◌≡◌, ◌<◌, length, take, refl, sym, ap, ◌∙◌, rules, arith}
-use Rattle.unit.specs.OnRecords.{written}
+use Rattle.std.proofs.Common.{◌≡◌, ◌<◌, length, refl, sym, ◌∙◌, rules, arith}
 use Rattle.unit.proofs.Written.{written_none}
 use Rattle.shunter.proofs.ShunterSent.{written_next}
 use Rattle.shunter.proofs.bytes.write.Goals as goal
 
 pub loop-i-init : goal.loop-i-init
-loop-i-init c =
-    (omega arith, refl, sym (written_none c.args.s.now))
+loop-i-init c = (omega arith, refl, sym (written_none c.args.s.now))
 
 pub loop-i-preserved : goal.loop-i-preserved
 loop-i-preserved c =
@@ -21,8 +19,3 @@ loop-i-preserved c =
       written_next items i c.loop-i.s _ c.args.s.now (omega (arith, four, under))
           under (omega (arith, inv.1, c.requires.1)) inv.2 c.put.ensures,
     )
-
-pub returns : goal.returns
-returns c =
-    let all : c.loop-i.i ≡ c.args.actions.count = omega arith in
-    c.loop-i.invariant.2 ∙ ap (λ n. written (take n c.args.actions.items) c.args.s.now) all

@@ -10,33 +10,27 @@ by_number t told = ap (added t) (sym told)
 
 pub returns-in-21 : goal.returns-in-21
 unfolding added
-returns-in-21 c =
-    by_number c.args.totals c.in-21.is
+returns-in-21 c = by_number c.args.totals c.in-21.is
 
 pub returns-in-22 : goal.returns-in-22
 unfolding added
-returns-in-22 c =
-    by_number c.args.totals c.in-22.is
+returns-in-22 c = by_number c.args.totals c.in-22.is
 
 pub returns-in-154 : goal.returns-in-154
 unfolding added
-returns-in-154 c =
-    by_number c.args.totals c.in-154.is
+returns-in-154 c = by_number c.args.totals c.in-154.is
 
 pub returns-in-155 : goal.returns-in-155
 unfolding added
-returns-in-155 c =
-    by_number c.args.totals c.in-155.is
+returns-in-155 c = by_number c.args.totals c.in-155.is
 
 pub returns-in-156 : goal.returns-in-156
 unfolding added
-returns-in-156 c =
-    by_number c.args.totals c.in-156.is
+returns-in-156 c = by_number c.args.totals c.in-156.is
 
 pub returns-in-159 : goal.returns-in-159
 unfolding added
-returns-in-159 c =
-    by_number c.args.totals c.in-159.is
+returns-in-159 c = by_number c.args.totals c.in-159.is
 
 pub returns-in_default : goal.returns-in_default
 unfolding added

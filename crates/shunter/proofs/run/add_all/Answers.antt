@@ -1,17 +1,11 @@
 -- The actions passed are counted.
-use Rattle.std.proofs.Common.{◌≡◌, length, take, sym, ap, ◌∙◌, rules, arith}
-use Rattle.unit.specs.Runs.{totalled}
+use Rattle.std.proofs.Common.{◌≡◌, length, sym, ◌∙◌, rules, arith}
 use Rattle.unit.proofs.Runs.Tallies.{totalled_none, below_more, added-below}
 use Rattle.shunter.proofs.ShunterCounts.{totalled-next}
 use Rattle.shunter.proofs.run.add_all.Goals as goal
 
 pub loop-i-init : goal.loop-i-init
-loop-i-init c =
-    (omega arith, below_more (omega arith) c.requires.0, sym (totalled_none c.args.counted))
-
-pub add-totals-requires : goal.add-totals-requires
-add-totals-requires c =
-    below_more (omega (arith, c.requires.1)) c.loop-i.invariant.1
+loop-i-init c = (omega arith, below_more (omega arith) c.requires.0, sym (totalled_none c.args.counted))
 
 pub loop-i-preserved : goal.loop-i-preserved
 loop-i-preserved c =
@@ -24,8 +18,3 @@ loop-i-preserved c =
       rw more (below_more (omega arith) (added-below _ _ _ inv.1)),
       more ∙ totalled-next c.args.counted c.loop-i.totals items i (omega (arith, four, c.requires.1)) inv.2,
     )
-
-pub returns : goal.returns
-returns c =
-    let all : c.loop-i.i ≡ c.args.actions.count = omega arith in
-    c.loop-i.invariant.2 ∙ ap (λ n. totalled c.args.counted (take n c.args.actions.items)) all

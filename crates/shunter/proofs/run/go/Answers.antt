@@ -1,6 +1,5 @@
 -- The records passed are the run so far.
-use Rattle.std.proofs.Common.{◌≡◌, ℕ, ◌+◌, ◌≤◌, List, length, drop, sym, ap, ◌∙◌, arith}
-use Rattle.std.proofs.Common.{inl, inr}
+use Rattle.std.proofs.Common.{◌≡◌, ℕ, ◌+◌, ◌≤◌, List, length, drop, sym, ap, ◌∙◌, arith, inl, inr}
 use Rattle.record.specs.Takes.{longest_log, take_one}
 use Rattle.record.specs.declared.event.Reading.{Reading}
 use Rattle.record.specs.declared.take.Taken.TheVariants.{Whole}
@@ -16,8 +15,7 @@ use Rattle.shunter.proofs.run.go.Goals.{After-take_one, In-Whole}
 use Rattle.shunter.proofs.run.go.Goals as goal
 
 pub loop-tally-init : goal.loop-tally-init
-loop-tally-init c =
-    going-first c.args.log.now c.args.budget c.args.start _ c.fresh-tally.ensures
+loop-tally-init c = going-first c.args.log.now c.args.budget c.args.start _ c.fresh-tally.ensures
 
 -- some of the budget is left
 some-left : (c : After-take_one) → c.loop-tally.tally.read ≡ c.args.budget → ⊥
@@ -55,12 +53,10 @@ module _ (c : In-Whole) where
   part = whole-counted log c.args.budget all t c.loop-tally.invariant c.if-at-log.false c.requires more k r whole
 
 pub overflow_add-end : goal.overflow_add-end
-overflow_add-end c =
-    omega (arith, (part (goal.at.overflow_add-end c).In-Whole).2)
+overflow_add-end c = omega (arith, (part (goal.at.overflow_add-end c).In-Whole).2)
 
 pub slice_bounds-apply-end : goal.slice_bounds-apply-end
-slice_bounds-apply-end c =
-    (part (goal.at.slice_bounds-apply-end c).In-Whole).1
+slice_bounds-apply-end c = (part (goal.at.slice_bounds-apply-end c).In-Whole).1
 
 pub count-tally-requires : goal.count-tally-requires
 count-tally-requires c =

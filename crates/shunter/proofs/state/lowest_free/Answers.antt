@@ -1,11 +1,8 @@
 -- The places passed are held.
-use Rattle.std.proofs.Common.{refl, sym, ◌∙◌, arith, zero-add}
+use Rattle.std.proofs.Common.{sym, ◌∙◌, arith, zero-add}
 use Rattle.unit.proofs.FourPlaces.{four-places}
 use Rattle.unit.proofs.Searches.{searched-more, searched-found, searched-none}
 use Rattle.shunter.proofs.state.lowest_free.Goals as goal
-
-pub loop-i-init : goal.loop-i-init
-loop-i-init c = (omega arith, refl)
 
 pub loop-i-preserved : goal.loop-i-preserved
 loop-i-preserved c = (

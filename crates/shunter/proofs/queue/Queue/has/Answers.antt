@@ -4,5 +4,4 @@ use Rattle.shunter.proofs.Waits.{has-is}
 use Rattle.shunter.proofs.queue.Queue.has.Goals as goal
 
 pub returns : goal.returns
-returns c =
-    c.or.ensures ∙ sym (has-is c.args.place c.args.self c.requires)
+returns c = c.or.ensures ∙ sym (has-is c.args.place c.args.self c.requires)

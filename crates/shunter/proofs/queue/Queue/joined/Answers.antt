@@ -3,8 +3,7 @@ use Rattle.shunter.proofs.Queued.{joined-none, joined-first, joined-second}
 use Rattle.shunter.proofs.queue.Queue.joined.Goals as goal
 
 pub returns-then-place-eq-NO_PLACE : goal.returns-then-place-eq-NO_PLACE
-returns-then-place-eq-NO_PLACE c ordered few =
-    joined-none c.args.self c.args.place ordered c.if-place-eq-NO_PLACE.true
+returns-then-place-eq-NO_PLACE c ordered few = joined-none c.args.self c.args.place ordered c.if-place-eq-NO_PLACE.true
 
 pub returns-then-self-eq-NO_PLACE : goal.returns-then-self-eq-NO_PLACE
 returns-then-self-eq-NO_PLACE c ordered few =

@@ -5,5 +5,4 @@ use Rattle.shunter.proofs.queue.Queue.none.Goals as goal
 
 pub returns : goal.returns
 unfolding queued
-returns c =
-    refl
+returns c = refl

@@ -14,12 +14,10 @@ returns-then-answer-eq-NOT_SOUND c =
     c.refused.ensures ∙ ap (λ w. shunted (shunt_refused_at not_sound w self)) c.nowhere.ensures ∙ ap shunted (sym eleven)
 
 pub on_event-requires : goal.on_event-requires
-on_event-requires c =
-    applied-count c.args.self c.args.bytes.now c.apply-answer.result c.apply-answer.ensures
+on_event-requires c = applied-count c.args.self c.args.bytes.now c.apply-answer.result c.apply-answer.ensures
 
 pub noted-requires : goal.noted-requires
-noted-requires c =
-    applied-count c.args.self c.args.bytes.now c.apply-answer.result c.apply-answer.ensures
+noted-requires c = applied-count c.args.self c.args.bytes.now c.apply-answer.result c.apply-answer.ensures
 
 pub returns-in-Meant : goal.returns-in-Meant
 returns-in-Meant c =

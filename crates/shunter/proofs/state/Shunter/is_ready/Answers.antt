@@ -5,5 +5,4 @@ use Rattle.shunter.proofs.state.Shunter.is_ready.Goals as goal
 
 pub returns : goal.returns
 unfolding ready
-returns c =
-    c.and.ensures ∙ ap₂ ◌&&◌ c.is_sound.ensures c.rules_hold.ensures
+returns c = c.and.ensures ∙ ap₂ ◌&&◌ c.is_sound.ensures c.rules_hold.ensures

@@ -12,8 +12,7 @@ returns-then-actions-lt-ACTION_ROOM c =
     (short-answer self bytes buffer short _ c.nowhere.ensures, short-written self bytes buffer short)
 
 pub write-requires : goal.write-requires
-write-requires c =
-    (sent-few c.args.self _ _ c.apply-shunted.ensures, omega (arith, c.if-actions-lt-ACTION_ROOM.false))
+write-requires c = (sent-few c.args.self _ _ c.apply-shunted.ensures, omega (arith, c.if-actions-lt-ACTION_ROOM.false))
 
 pub returns : goal.returns
 returns c =

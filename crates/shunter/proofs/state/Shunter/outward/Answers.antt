@@ -10,8 +10,7 @@ use Rattle.shunter.proofs.state.Shunter.outward.Goals as goal
 
 pub loop-i-init : goal.loop-i-init
 unfolding kept
-loop-i-init c =
-    (omega arith, c.silence-out.ensures)
+loop-i-init c = (omega arith, c.silence-out.ensures)
 
 pub loop-i-preserved-then-and : goal.loop-i-preserved-then-and
 loop-i-preserved-then-and c =
@@ -39,9 +38,3 @@ loop-i-preserved c =
       omega (arith, c.loop-i-test.true),
       c.with_action-out.ensures so_far room c.loop-i.invariant.1 ∙ ap listed (outward-more waits items i under shown),
     )
-
-pub returns : goal.returns
-returns c =
-    let all : c.loop-i.i ≡ c.args.count = omega arith in
-    c.loop-i.invariant.1
-    ∙ ap (λ n. listed (outward (waits_for c.args.self.state.places (waiting c.args.self.queue)) (take n c.args.actions.items))) all
