@@ -1,0 +1,15 @@
+-- The place in one half of the queue or the other.
+use Rattle.std.proofs.Common.{◌≡◌, ◌||◌, length, sym, ap, ap₂, ◌∙◌, rules}
+use Rattle.place.specs.Places.{holds}
+use Rattle.shunter.proofs.Waits.{waits-is}
+use Rattle.shunter.proofs.state.Shunter.waits.Goals as goal
+
+pub returns : goal.returns
+returns c =
+    let ps = c.args.self.state.places in
+    let four : length ps ≡ 4 = search rules in
+    let partner = c.args.partner in
+    c.or.ensures
+    ∙ ap₂ ◌||◌ (c.holds.ensures ∙ ap (holds partner) c.place_at-first.ensures)
+    (c.holds-2.ensures ∙ ap (holds partner) c.place_at-second.ensures)
+    ∙ sym (waits-is ps partner four c.args.self.queue)
