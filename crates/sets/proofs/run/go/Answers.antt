@@ -48,8 +48,8 @@ module _ (c : In-Whole) where
 pub overflow_add-end : goal.overflow_add-end
 overflow_add-end c = omega (arith, (part (goal.at.overflow_add-end c).In-Whole).2)
 
-pub slice_bounds-end-to : goal.slice_bounds-end-to
-slice_bounds-end-to c = (part (goal.at.slice_bounds-end-to c).In-Whole).1
+pub slice_bounds-apply-end : goal.slice_bounds-apply-end
+slice_bounds-apply-end c = (part (goal.at.slice_bounds-apply-end c).In-Whole).1
 
 pub count-tally-requires : goal.count-tally-requires
 count-tally-requires c =
