@@ -33,7 +33,8 @@ module _ (a : Action) (at : ℕ) (buffer : List ℕ) (room : at + length (action
     left-type = putting-next _ _ _ (number a) _ _ _ left-number _ _ numbered
 
     -- before the partner
-    left-partner : (m : ℕ) (d : List ℕ) → Put (type a) n b m d → (p : ℕ) → p ≡ partner_number a.partner → Left (partner p) m d
+    left-partner : (m : ℕ) (d : List ℕ) → Put (type a) n b m d → (p : ℕ) → p ≡ partner_number a.partner
+        → Left (partner p) m d
     left-partner m d typed p is =
         subst (λ k. Left (partner k) m d) (sym is) (putting-next _ _ _ (type a) _ _ _ left-type _ _ typed)
 

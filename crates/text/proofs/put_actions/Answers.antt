@@ -1,5 +1,6 @@
 -- What is left to put are the actions from here on.
-use Rattle.std.proofs.Common.{ℕ, ◌≡◌, ◌+◌, ◌≤◌, ◌<◌, List, [], ◌++◌, length, get_or, take, drop, sym, ap, ap₂, subst, ◌∙◌, add-one, arith, rules, drop-cons}
+use Rattle.std.proofs.Common.{ℕ, ◌≡◌, ◌+◌, ◌≤◌, ◌<◌, List, [], ◌++◌, length, get_or, take, drop, sym, ap, ap₂}
+use Rattle.std.proofs.Common.{subst, ◌∙◌, add-one, arith, rules, drop-cons}
 use lib.ListN.{length-take, drop_of_length-le}
 use lib.Seq.{get_or-take}
 use Rattle.wire.specs.Blocks.{blocks}

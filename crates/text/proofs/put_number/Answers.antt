@@ -1,5 +1,6 @@
 -- The digits of what is left, put before those that stand already, are those of the number.
-use Rattle.std.proofs.Common.{◌≡◌, ◌+◌, ◌-◌, ◌/◌, ◌%◌, [], ◌∷◌, length, set, length-append, sym, ap, ◌∙◌, arith}
+use Rattle.std.proofs.Common.{◌≡◌, ◌+◌, ◌-◌, ◌/◌, ◌%◌, [], ◌∷◌, length, set, length-append, sym, ap, ◌∙◌}
+use Rattle.std.proofs.Common.{arith}
 use lib.ListN.{length-set}
 use Rattle.text.specs.Texts.{digit_zero, decimal}
 use Rattle.text.specs.Making.{put_at}

@@ -66,6 +66,7 @@ returns c =
     let state = ap (λ (r : Started). r.state) reading in
     let on = c.on_record_unchecked-stepped in (
       call-answer image bytes actions _ _ on.result room read state on.ensures.0 on.ensures.1,
-      call_next image bytes actions _ _ on.result room read state on.ensures.0 on.ensures.1 _ c.if-code-ne-ACCEPTED.false c.put_image.ensures,
+      call_next image bytes actions _ _ on.result room read state on.ensures.0 on.ensures.1 _ c.if-code-ne-ACCEPTED.false
+          c.put_image.ensures,
       call-wrote image bytes actions _ _ on.result room read state on.ensures.0 on.ensures.1,
     )

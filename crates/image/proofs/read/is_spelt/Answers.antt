@@ -15,7 +15,8 @@ module _ (body : List ℕ) (long : length body ≡ 41) where
       ≡ (b && (same_bytes (last_bytes (state_in body).last) (drop last_from body) && PlacesSpelt place_count (drop head_size body)))
   marked b test =
       body-spelt body long
-      ∙ ap (λ t. t && (same_bytes (last_bytes (state_in body).last) (drop last_from body) && PlacesSpelt place_count (drop head_size body)))
+      ∙ ap (λ t. t && (same_bytes (last_bytes (state_in body).last) (drop last_from body)
+      && PlacesSpelt place_count (drop head_size body)))
       test
 
   -- and the last known RBC

@@ -7,7 +7,8 @@ use Rattle.image.proofs.Taking.{CopiedTo, copy_more, copy-length, copy-end}
 use Rattle.image.proofs.read.read_body_a1.Goals as goal
 
 -- the copy has the length of a body
-copied-length : (body whole : List ℕ) (i : ℕ) → length body ≡ 36 → i ≤ 36 → whole ≡ CopiedTo body i → length (set whole 36 fleet_tries) ≡ 41
+copied-length : (body whole : List ℕ) (i : ℕ) → length body ≡ 36 → i ≤ 36 → whole ≡ CopiedTo body i
+    → length (set whole 36 fleet_tries) ≡ 41
 copied-length body whole i long most copied =
     length-set whole 36 fleet_tries ∙ ap length copied ∙ copy-length body long i most
 

@@ -1,5 +1,6 @@
 -- The members passed stand after those of the set.
-use Rattle.std.proofs.Common.{arith, ap, sym, ◌∙◌, ◌≡◌, ◌<◌, ◌≤◌, ◌+◌, ◌++◌, ℕ, true, length, take, length-append}
+use Rattle.std.proofs.Common.{arith, ap, sym, ◌∙◌, ◌≡◌, ◌<◌, ◌≤◌, ◌+◌, ◌++◌, ℕ, true, length, take}
+use Rattle.std.proofs.Common.{length-append}
 use Rattle.std.proofs.Math.Seq.{length-take-le}
 use mathlib.Core.List.{append-nil}
 use Rattle.sets.specs.Members.{most_members, members_of, set_of, tidy}

@@ -1,5 +1,6 @@
 -- The members passed stand after those of the set, each with its first try.
-use Rattle.std.proofs.Common.{arith, ap, sym, ◌∙◌, ◌≡◌, ◌<◌, ◌≤◌, ◌+◌, ◌++◌, ◌∷◌, [], ℕ, true, length, map, take, length-append}
+use Rattle.std.proofs.Common.{arith, ap, sym, ◌∙◌, ◌≡◌, ◌<◌, ◌≤◌, ◌+◌, ◌++◌, ◌∷◌, [], ℕ, true, length}
+use Rattle.std.proofs.Common.{map, take, length-append}
 use Rattle.std.proofs.Math.Seq.{length-take-le}
 use lib.ListN.{length-map}
 use mathlib.Core.List.{append-nil}
