@@ -1,5 +1,5 @@
 -- The members passed are sent their actions.
-use Rattle.std.proofs.Common.{◌≡◌, ◌<◌, ◌++◌, length, take, append-nil, sym, ap, ◌∙◌, arith, rules}
+use Rattle.std.proofs.Common.{◌≡◌, ◌++◌, length, take, append-nil, sym, ap, ◌∙◌, arith, rules}
 use Rattle.unit.specs.Forms.{listed}
 use Rattle.sets.specs.Members.{members_of}
 use Rattle.sets.specs.SetSteps.{sent_all}

@@ -1,5 +1,5 @@
 -- The actions passed are written.
-use Rattle.std.proofs.Common.{◌≡◌, ◌<◌, length, take, sym, ap, ◌∙◌, arith, rules}
+use Rattle.std.proofs.Common.{◌≡◌, length, take, sym, ap, ◌∙◌, arith, rules}
 use Rattle.unit.specs.OnRecords.{written}
 use Rattle.unit.proofs.Written.{written_none}
 use Rattle.sets.proofs.SetSent.{written_next}

@@ -1,5 +1,5 @@
 -- The actions passed are counted.
-use Rattle.std.proofs.Common.{◌≡◌, ◌<◌, length, take, sym, ap, ◌∙◌, arith, rules}
+use Rattle.std.proofs.Common.{◌≡◌, length, take, sym, ap, ◌∙◌, arith, rules}
 use Rattle.unit.specs.Runs.{totalled}
 use Rattle.unit.proofs.Runs.Tallies.{totalled_none, below_more, added-below}
 use Rattle.sets.proofs.SetCounts.{totalled-next}

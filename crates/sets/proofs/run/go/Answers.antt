@@ -1,5 +1,5 @@
 -- The records passed are the run so far.
-use Rattle.std.proofs.Common.{◌≡◌, ◌≤◌, ◌<◌, ◌+◌, ℕ, List, inl, inr, length, drop, sym, ap, ◌∙◌, arith}
+use Rattle.std.proofs.Common.{◌≡◌, ◌≤◌, ◌+◌, ℕ, List, inl, inr, length, drop, sym, ap, ◌∙◌, arith}
 use Rattle.record.specs.Takes.{longest_log, take_one}
 use Rattle.record.specs.declared.event.Reading.{Reading}
 use Rattle.record.specs.declared.take.Taken.TheVariants.{Whole}

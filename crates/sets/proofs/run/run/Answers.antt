@@ -1,5 +1,5 @@
 -- The refusals in their order, then the records.
-use Rattle.std.proofs.Common.{true, false, sym, ◌∙◌}
+use Rattle.std.proofs.Common.{sym, ◌∙◌}
 use borrow.Author.Tests.{le-leb, lt-leb}
 use Rattle.wire.specs.Refusals.{not_sound, log_too_long}
 use Rattle.record.specs.Takes.{longest_log}

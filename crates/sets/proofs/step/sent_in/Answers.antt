@@ -1,5 +1,5 @@
 -- The actions of each move, in their order.
-use Rattle.std.proofs.Common.{◌≡◌, [], ◌∷◌, map, sym, ap, ◌∙◌, arith}
+use Rattle.std.proofs.Common.{◌≡◌, map, sym, ap, ◌∙◌, arith}
 use Rattle.record.specs.declared.partner.Partner.{Partner}
 use Rattle.place.specs.Table.{release}
 use Rattle.unit.specs.Forms.{listed}

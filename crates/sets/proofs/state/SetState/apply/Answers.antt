@@ -1,5 +1,5 @@
 -- The state is tested, then what the record means is stepped.
-use Rattle.std.proofs.Common.{true, false, ap, sym, ◌∙◌}
+use Rattle.std.proofs.Common.{ap, sym, ◌∙◌}
 use Rattle.sets.specs.OnSets.{apply_sets, set_listed}
 use Rattle.sets.specs.SetSteps.{set_refused}
 use Rattle.sets.proofs.Packing.{packed-ready}
