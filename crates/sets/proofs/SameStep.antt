@@ -55,7 +55,7 @@ use Rattle.unit.proofs.ByFound.{order-found, call-found, named-found}
 use Rattle.unit.proofs.Weights.{weigh-set, length-closed, closed_at}
 use Rattle.sets.specs.Members.{most_members, has_member, member_for}
 use Rattle.sets.specs.SixSets.{Six, Sets, set_in, size, phase_in, on_whereabouts}
-use Rattle.sets.specs.Moves.{move_of, moves, sent_in}
+use Rattle.sets.specs.Moves.{move_of, sent_in}
 use Rattle.sets.specs.SetSteps.{SetOutcome, set_refused_at, set_refused, closed_six, closing_sent, set_closed, with_member, moved}
 use Rattle.sets.specs.SetSteps.{set_recalling, set_moved, set_named, new_member, admitted_to, set_joined, set_ordered}
 use Rattle.sets.specs.SetSteps.{set_received, set_called, set_done, set_noted, set_step}

@@ -33,7 +33,7 @@ use Rattle.unit.specs.declared.state.State.{State}
 use Rattle.unit.proofs.Counts.{count-all}
 use Rattle.unit.proofs.Searches.{first-none, none-some}
 use Rattle.unit.proofs.Weights.{weigh-same}
-use Rattle.history.specs.Histories.{after, summed, is_order, is_call, is_loss, orders, calls, losses, actions, is_release}
+use Rattle.history.specs.Histories.{after, summed, is_order, is_call, is_loss, actions, is_release}
 use Rattle.history.specs.Histories.{places_held, timeout_for, silent, timeouts, holds_place, waiting_phase}
 use Rattle.history.specs.Histories.{waits_at, waits}
 use Rattle.history.specs.Histories.{release_of}

@@ -1,0 +1,99 @@
+-- The records passed are the run so far.
+use Rattle.std.proofs.Common.{◌≡◌, ◌≤◌, ◌+◌, ℕ, List, inl, inr, length, drop, sym, ap, ◌∙◌, arith}
+use Rattle.record.specs.Takes.{longest_log, take_one}
+use Rattle.record.specs.declared.event.Reading.{Reading}
+use Rattle.record.specs.declared.take.Taken.TheVariants.{Whole}
+use Rattle.record.proofs.Takes.{part-is}
+use Rattle.unit.specs.Counting.{most_total, Below}
+use Rattle.sets.specs.SetRuns.{set_go}
+use Rattle.sets.specs.Holding.{set_tallying}
+use Rattle.sets.specs.declared.run.SetTally.{SetTally}
+use Rattle.sets.proofs.SetSent.{sent-few}
+use Rattle.sets.proofs.SetGoing.{going-first, going_end, going-budget, going-stop, whole-counted, going_next}
+use Rattle.sets.proofs.run.go.Goals.{In-Whole}
+use Rattle.sets.proofs.run.go.Goals as goal
+
+pub loop-tally-init : goal.loop-tally-init
+loop-tally-init c = going-first c.args.log.now c.args.budget c.args.start _ c.fresh-tally.ensures
+
+-- a whole record
+module _ (c : In-Whole) where
+  abbrev log : List ℕ
+  log = c.args.log.now
+
+  abbrev t : SetTally
+  t = c.loop-tally.tally
+
+  abbrev k : ℕ
+  k = c.in-Whole.length
+
+  abbrev r : Reading
+  r = c.in-Whole.reading
+
+  -- some of the budget is left
+  more : t.read ≡ c.args.budget → ⊥
+  more none = c.if-wide-budget.false (c.wide.ensures ∙ none)
+
+  whole : take_one (drop t.offset log) ≡ Whole k r
+  whole = sym c.in-Whole.ensures
+
+  part : (1 ≤ k)
+      × (t.offset + k ≤ length log)
+      × (t.offset + k ≤ longest_log)
+      × (t.read ≤ t.offset)
+      × (t.refused ≤ t.read)
+      × Below most_total t.totals
+  part = whole-counted log c.args.budget _ t c.loop-tally.invariant c.if-at-log.false c.requires more k r whole
+
+pub overflow_add-end : goal.overflow_add-end
+overflow_add-end c = omega (arith, (part (goal.at.overflow_add-end c).In-Whole).2)
+
+pub slice_bounds-apply-end : goal.slice_bounds-apply-end
+slice_bounds-apply-end c = (part (goal.at.slice_bounds-apply-end c).In-Whole).1
+
+pub count-tally-requires : goal.count-tally-requires
+count-tally-requires c =
+    let facts = part (goal.at.count-tally-requires c).In-Whole in
+    (facts.2, facts.3, facts.4, facts.5, sent-few c.loop-tally.tally.state _ _ c.apply.ensures)
+
+pub loop-tally-smaller : goal.loop-tally-smaller
+unfolding set_tallying
+loop-tally-smaller c =
+    let read = ap (λ (x : SetTally). x.read) c.count-tally.ensures in
+    omega (arith, read, more (goal.at.loop-tally-smaller c).In-Whole, c.loop-tally.invariant.2)
+
+pub loop-tally-preserved : goal.loop-tally-preserved
+loop-tally-preserved c =
+    let first = (goal.at.loop-tally-preserved c).In-Whole in
+    let log = c.args.log.now in
+    let t = c.loop-tally.tally in
+    going_next log c.args.budget _ t c.loop-tally.invariant c.if-at-log.false c.requires (more first) (k first) (r first) (whole first) _
+    (part-is log t.offset (k first)) _ c.apply.ensures _ c.count-tally.ensures
+
+-- where it stops, the answer is the run's
+pub returns-then-at-log : goal.returns-then-at-log
+returns-then-at-log c =
+    c.report.ensures
+    ∙ going_end c.args.log.now c.args.budget _ c.loop-tally.tally c.loop-tally.invariant c.if-at-log.true
+    ∙ ap (λ t. set_go c.args.budget t c.args.log.now) c.fresh-tally.ensures
+
+pub returns-then-wide-budget : goal.returns-then-wide-budget
+returns-then-wide-budget c =
+    c.report-then-wide-budget.ensures
+    ∙ going-budget c.args.log.now c.args.budget _ c.loop-tally.tally c.loop-tally.invariant c.if-at-log.false
+    (sym c.wide.ensures ∙ c.if-wide-budget.true)
+    ∙ ap (λ t. set_go c.args.budget t c.args.log.now) c.fresh-tally.ensures
+
+pub returns-in-Stopped : goal.returns-in-Stopped
+returns-in-Stopped c =
+    c.report-in-Stopped.ensures
+    ∙ going-stop c.args.log.now c.args.budget _ c.loop-tally.tally c.loop-tally.invariant c.if-at-log.false c.requires
+    (λ none. c.if-wide-budget.false (c.wide.ensures ∙ none)) _ (inl (sym c.in-Stopped.ensures))
+    ∙ ap (λ t. set_go c.args.budget t c.args.log.now) c.fresh-tally.ensures
+
+pub returns-in-Refused : goal.returns-in-Refused
+returns-in-Refused c =
+    c.report-in-Refused.ensures
+    ∙ going-stop c.args.log.now c.args.budget _ c.loop-tally.tally c.loop-tally.invariant c.if-at-log.false c.requires
+    (λ none. c.if-wide-budget.false (c.wide.ensures ∙ none)) _ (inr (sym c.in-Refused.ensures))
+    ∙ ap (λ t. set_go c.args.budget t c.args.log.now) c.fresh-tally.ensures

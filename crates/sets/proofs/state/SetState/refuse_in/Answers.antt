@@ -1,0 +1,13 @@
+-- A refusal with the phase of the set.
+use Rattle.std.proofs.Common.{ap, ◌∙◌}
+use Rattle.sets.specs.SetSteps.{set_refused_at}
+use Rattle.sets.specs.OnSets.{set_listed}
+use Rattle.sets.proofs.StepLaws.{refused-held}
+use Rattle.sets.proofs.state.SetState.refuse_in.Goals as goal
+
+pub returns : goal.returns
+returns c =
+    let a = c.args in
+    c.refused.ensures
+    ∙ ap (λ phase. set_listed (set_refused_at a.code phase a.self)) c.phase.ensures
+    ∙ refused-held a.self a.code _ c.requires
