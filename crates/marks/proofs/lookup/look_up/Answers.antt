@@ -1,6 +1,5 @@
 -- The refusals in their order; then the run from the mark to the record.
-use Rattle.std.proofs.Common.{ℕ, List, ◌/◌, sym, ◌∙◌, arith}
-use Rattle.place.specs.declared.limits.Limits.{Limits}
+use Rattle.std.proofs.Common.{◌/◌, sym, ◌∙◌, arith}
 use Rattle.marks.specs.Marks.{mark_every}
 use Rattle.marks.specs.Lookup.{no_mark}
 use Rattle.marks.proofs.Starting.{Begins, begins-fine}
