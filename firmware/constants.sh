@@ -39,7 +39,7 @@ crates=../crates
 awk -v shown="${1:-resheftal.h}" '
     # REFUSED_NOT_TAKEN for not_taken; StartOfMission, phase_number and partner_bytes likewise
     function snake(name,  i, c, out) {
-        sub(/(Number|Bytes)$/, "", name)
+        sub(/_(number|bytes)$/, "", name)
         for (i = 1; i <= length(name); i++) {
             c = substr(name, i, 1)
             out = out (c ~ /[A-Z]/ && i > 1 ? "_" : "") toupper(c)
@@ -60,15 +60,16 @@ awk -v shown="${1:-resheftal.h}" '
         if (file == "Partners" && name ~ /^(rbc|riu)$/) return "PARTNER_" snake(name)
         if (name == "reserved_number") return "RESERVED_NUMBER"
         if (name ~ /^(place_size|place_count|highest_x|action_room|action_size|most_actions|interface_number|per_place)$/) return snake(name)
-        if (file == "Records" || (file == "Places" && name ~ /Tries$/)) return snake(name)
+        if (file == "Records" || (file == "Places" && name ~ /_tries$/)) return snake(name)
         return ""
     }
     # the items of a list, from this offset on
-    function offsets(prefix, list, from,  item, word, n, k, i) {
+    function offsets(prefix, list, from,  item, word, n, k, i, field) {
         n = split(list, item, "∷")
         for (i = 1; i <= n; i++) if (item[i] !~ /\[\]/) {
             gsub(/[()]/, "", item[i]); k = split(item[i], word, " ")
-            mean(prefix snake(word[1] ~ /^(s|as_bit)$/ ? substr(word[k], 2) : word[1]), from + i - 1)
+            field = word[1] ~ /^(s[.].*|as_bit)$/ ? word[k] : word[1]; sub(/.*[.]/, "", field)
+            mean(prefix snake(field), from + i - 1)
         }
     }
     # a row of the table of kinds: its length, and the event that it means
@@ -87,7 +88,7 @@ awk -v shown="${1:-resheftal.h}" '
     }
     FNR == 1 { file = FILENAME; sub(/.*\//, "", file); antt = sub(/[.]antt$/, "", file); table = head = 0 }
 
-    antt && /^[a-zA-Z0-9]+ = [0-9][0-9A-Fx_]*$/ {
+    antt && /^[a-zA-Z0-9_]+ = [0-9][0-9A-Fx_]*$/ {
         number = $3; gsub(/_/, "", number); value[$1] = number
         if (named(file, $1) != "") mean(named(file, $1), number)
     }
@@ -97,7 +98,7 @@ awk -v shown="${1:-resheftal.h}" '
     table { sub(/ *--.*/, "") }
     table && /^ *∷/ { row_ended(); sub(/^ *∷ */, ""); if ($1 == "[]") { table = 0; mean("LONGEST_RECORD", longest) } else row = $0; next }
     table && row != "" { row = row " " $0 }
-    antt && $1 == "by_phase" && $2 ~ /^at/ && !phases { for (i = 2; $i ~ /^at/; i++) phase[++phases] = substr($i, 3) }
+    antt && $1 == "by_phase" && $2 ~ /^at/ && !phases { for (i = 2; $i ~ /^at/; i++) phase[++phases] = substr($i, 4) }
     antt && /^phase_number = by_phase / { for (i = 1; i <= phases; i++) mean("PHASE_" snake(phase[i]), $(i + 3)) }
     antt && /^direction_number [A-Z][a-z]* = [0-9]$/ { mean("DIRECTION_" snake($2), $4) }
     # the image: its kind, the head, the places, the tries, the last known RBC
@@ -107,8 +108,8 @@ awk -v shown="${1:-resheftal.h}" '
         mean("PHASE_FREE", substr($4, 1, 1))
         sub(/^.*λ d ph p[.] /, ""); sub(/\).*/, ""); offsets("PLACE_", $0, 0)
     }
-    antt && /^body_bytes s = head_bytes s [+][+] blocks place_bytes \(s [.]places\)$/ { behind_head = 1 }
-    antt && /^whole_bytes s = body_bytes s [+][+] \(s [.]limits [.]tries ∷ last_bytes \(s [.]last\)\)$/ { behind_places = 1 }
+    antt && /^body_bytes s = head_bytes s [+][+] blocks place_bytes s[.]places$/ { behind_head = 1 }
+    antt && /^whole_bytes s = body_bytes s [+][+] \(s[.]limits[.]tries ∷ last_bytes s[.]last\)$/ { behind_places = 1 }
     antt && /^image_a2 s = kind_a2 ∷ whole_bytes s$/ { behind_kind = 1 }
 
     file ~ /\.h$/ && !laid {

@@ -81,14 +81,14 @@ else
     counted() { qemu-x86_64 -L "$sysroot" -plugin "$t/count.so" "$@"; }
     preloaded() { qemu-x86_64 -L "$sysroot" -E LD_PRELOAD="$t/rooms.so" "$1"; }
 fi
-(cd .. && rt check report steps sheet rescues >"$t/said") || { cat "$t/said" >&2; fail "report, steps, sheet or rescues is not proved"; }
+../run-program --build report steps sheet rescues >"$t/said" 2>&1 || { cat "$t/said" >&2; fail "report, steps, sheet or rescues is not proved"; }
 library >&2
 make -s bench classes >&2
 sh ../firmware/test_stack.sh >"$t/said" || fail "the stack cannot be found: firmware/test_stack.sh fails"
-report=../target/bin/report
-steps=../target/bin/steps
-sheet=../target/bin/sheet
-rescues=../target/bin/rescues
+report=../crates/report/out/report
+steps=../crates/steps/out/steps
+sheet=../crates/sheet/out/sheet
+rescues=../crates/rescues/out/rescues
 model=$t/report_model
 "$gcc" -O3 -std=c11 -o "$model" report_model.c model.c
 "$gcc" -O3 -std=c11 -DSHEET_MAIN -o "$t/sheet_model" sheet_model.c model.c
@@ -307,9 +307,9 @@ own_stack() {
     echo "| | bytes of code | frames | the log's room | the chunk | used again | deepest stack |"
     echo "|---|---|---|---|---|---|---|"
     for program in report steps; do
-        own_stack "../target/bin/$program"
+        own_stack "../crates/$program/out/$program"
         [ $program != report ] || run_stack=$deepest
-        code=$("${prefix}size" -A "../target/bin/$program" | awk '$1 == ".text" { print $2 }')
+        code=$("${prefix}size" -A "../crates/$program/out/$program" | awk '$1 == ".text" { print $2 }')
         echo "| \`$program\` | $code | $frames | $room | $chunk | $again | $deepest |"
     done
     "${prefix}objdump" -d --no-show-raw-insn "$t/example" >"$t/code"

@@ -3,7 +3,7 @@
 cd "$(dirname "$0")" || exit 1
 count=${1:-2000}
 seed=${2:-1}
-(cd .. && rt check sheet >/dev/null) || { echo "sheet is not proved" >&2; exit 1; }
+../run-program --build sheet || { echo "sheet is not proved" >&2; exit 1; }
 make -s sheet_model random_log || exit 1
 t=$(mktemp -d) || exit 1
 trap 'rm -rf "$t"' EXIT

@@ -2,7 +2,7 @@
 # Instructions a byte and a record of the judge, by callgrind, over random sheets of a quarter, half and all of the longest: the model's, and
 # where the program `resheftal` stands built that of the proved judge, an empty sheet's subtracted.
 cd "$(dirname "$0")" || exit 1
-program=../target/bin/resheftal
+program=../crates/resheftal/out/resheftal
 t=$(mktemp -d) || exit 1
 trap 'rm -rf "$t"' EXIT
 # counted WORDS..: leaves the instructions in $ir, and what the program prints in $t/out

@@ -8,5 +8,5 @@ make -s onsight_events
 ./onsight_events | cmp - onsight_events.sum
 rm onsight_events.sum
 count() { valgrind --tool=callgrind --callgrind-out-file=/dev/null "$1" 2>&1 | sed -n 's/.*Collected : //p'; }
-echo "proved: $(count ../target/bin/onsight_events) instructions for 1000000 events"
+echo "proved: $(count ../crates/onsight_events/out/onsight_events) instructions for 1000000 events"
 echo "model:  $(count ./onsight_events) instructions for 1000000 events"

@@ -13,7 +13,7 @@ count() { # FUNCTION WHAT: over $t/log, named $log
         'BEGIN { printf "model, %s, %s: %d instructions, %.2f a record; %s\n", mix, what, ir, ir / n, line }'
 }
 proved() { # PROGRAM: its instructions over the log, less those over none
-    program=../target/bin/$1
+    program=../crates/$1/out/$1
     [ -x "$program" ] || return 0
     valgrind --tool=callgrind --callgrind-out-file=/dev/null "$program" </dev/null >"$t/out" 2>"$t/said" || exit 1
     none=$(instructions)

@@ -12,7 +12,7 @@ import os
 import re
 import sys
 
-NAME = re.compile(r"(?<![\w'′])[A-Za-z][\w'′₀-₉]*(?:-[\w'′₀-₉]+)*")
+NAME = re.compile(r"(?<![\w′])[A-Za-z][\w'′₀-₉]*(?:-[\w'′₀-₉]+)*")
 CAMEL = re.compile(r"^[a-z][a-z0-9]*[A-Z]")
 
 
@@ -43,8 +43,10 @@ def main(words):
 
         def name(m):
             word = m.group()
-            if word in names:
-                return names[word]
+            # a name, or one in quotes
+            for bare in (word, word.rstrip("'")):
+                if bare in names:
+                    return names[bare] + word[len(bare) :]
             if CAMEL.match(word):
                 left.add(word)
             return word

@@ -12,7 +12,8 @@ use native.Mathlib.Numerals.{add-one}
 use native.Mathlib.Omega.{arith}
 use lib.Dec.{eqb}
 use lib.ListN.{length, get_or, set, take, drop, replicate, drop_of_length-le, length-drop}
-use lib.Seq.{get_or-drop, drop-cons, take_all, set_at, paste, paste-suc, length-paste}
+use lib.Seq.{get_or-drop, drop-cons, take_all, paste, paste-suc, length-paste}
+use lib.Seq as in-lists
 use borrow.Author.Tests.{eq-eqb, ne_eqb}
 use Rattle.wire.specs.Bytes.{byte}
 use Rattle.wire.specs.Refusals.{accepted, wrong_length, unknown_kind, not_sound}
@@ -219,4 +220,4 @@ module _ (body : List ℕ) (long : length body ≡ old_body_size) where
   pub copy-end : set (CopiedTo body old_body_size) old_body_size fleet_tries ≡ body ++ tail_of_a1
   copy-end =
       ap (λ l. set (l ++ replicate 5 0) old_body_size fleet_tries) (take_all old_body_size body (omega (arith, long)))
-      ∙ set_at body 0 (replicate 4 0) fleet_tries old_body_size long
+      ∙ in-lists.set_at body 0 (replicate 4 0) fleet_tries old_body_size long

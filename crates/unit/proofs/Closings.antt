@@ -8,8 +8,10 @@ use native.Mathlib.Nat.{zero-add, le_of_suc-le-suc}
 use native.Mathlib.Numerals.{add-one}
 use native.Mathlib.Omega.{arith}
 use lib.Dec.{eqb}
-use lib.ListN.{length, get_or, take, drop, set, drop_of_length-le, length-append, length-map, get_or-map}
-use lib.Seq.{drop-cons, take-suc, take_all, get_or_at, set_at, length-take-le, paste, paste-suc}
+use lib.ListN.{length, get_or, take, drop, set, drop_of_length-le, length-append, length-map}
+use Rattle.wire.proofs.Tests.{get_or-map}
+use lib.Seq.{drop-cons, take-suc, take_all, get_or_at, length-take-le, paste, paste-suc}
+use lib.Seq as in-lists
 use Rattle.place.specs.Places.{vacant, partner_of}
 use Rattle.place.proofs.Holdings.{partner_held, holding_closed_by}
 use Rattle.place.specs.Table.{closing, closes, numbers, place_after, closed_by, turned_to}
@@ -58,9 +60,10 @@ module _ (which : Closing) (ps : List Place) (i : ℕ) (below : i < length ps) w
   unfolding p closed
   closings-more =
       ap (λ l. set l i (place_after p (closed_by which p))) at-hand
-      ∙ set_at (closed which (take i ps)) p (drop (suc i) ps) (place_after p (closed_by which p)) i closed-length
+      ∙ in-lists.set_at (closed which (take i ps)) p (drop (suc i) ps) (place_after p (closed_by which p)) i closed-length
       ∙ sym (append_assoc (closed which (take i ps)) (place_after p (closed_by which p) ∷ []) (drop (suc i) ps))
-      ∙ ap₂ ◌++◌ (sym (ap (closed which) next ∙ closed-append which (take i ps) (p ∷ []))) (ap (λ k. drop k ps) (sym (add-one i)))
+      ∙ ap₂ ◌++◌ (sym (ap (closed which) next ∙ closed-append which (take i ps) (p ∷ [])))
+      (ap (λ k. drop k ps) (sym (add-one i)))
 
   -- one turn of the code's loop: the place, and its number
   module _ (places : List Place) (so_far : places ≡ closed which (take i ps) ++ drop i ps) (t : Turned)
