@@ -51,7 +51,8 @@ record Met : Type 0 where
 
 met : Met
 unfolding reading turn turned_to first seek places_ok sound cold cold_start closed closing_actions step on_record some recalled blocks
-    body_bytes whole_bytes image_a2 imaged_a2 places_in state_in same_bytes read_a2 written on_image seen_after seen_along last_image shown_image
+    body_bytes whole_bytes image_a2 imaged_a2 places_in state_in same_bytes read_a2 written on_image seen_after seen_along
+    last_image shown_image
 met = record { read = refl; enough = omega arith; seven = refl; named = refl; place = refl; phase = refl; taken = refl; old = refl }
 
 -- minus 7, and C is told place 1 and phase 1

@@ -110,7 +110,8 @@ read-writes = in_image.RoundTrips.Written-Read
 -- `counts` is what it should be; `silent p`: each record names somebody else or nobody, or is a timeout for p
 -- demand D-3-1: "In any history from a cold start, with no image loaded in it, at most 11 actions for each order accepted, 5 for each
 -- accepted call from an RBC, 3 for each accepted loss"
-pub bounded : (l : Limits) → l.tries ≡ 3 → (cold_start l).code ≡ 0 → (history : List Bytes) → AtMost 11 5 3 (cold_state l) history
+pub bounded : (l : Limits) → l.tries ≡ 3 → (cold_start l).code ≡ 0 → (history : List Bytes)
+    → AtMost 11 5 3 (cold_state l) history
 bounded = in-history.Bounds.demand-bound
 
 -- demand D-3-2: "and histories are shown that reach 11, 5 and 3": of a orders, b calls and c losses, with RBC 5 (`reaching`, an example);
@@ -255,7 +256,8 @@ told-nowhere s bytes room =
 -- them
 -- demand Q-7-1, Q-7-2, Q-7-4: "at most four members in all"; "Prove the sets disjoint, no RIU incoming"
 pub sets-disjoint : (b : SetState) → set_ready b ≡ true → (size (six_in b) ≤ 4)
-    × ((p : Partner) (w v : SetName) → has_member p (set_in w (six_in b)) ≡ true → has_member p (set_in v (six_in b)) ≡ true → w ≡ v)
+    × ((p : Partner) (w v : SetName) → has_member p (set_in w (six_in b)) ≡ true → has_member p (set_in v (six_in b))
+    ≡ true → w ≡ v)
     × ((p : Partner) → has_member p (six_in b).incoming ≡ true → is_rbc p ≡ true)
 sets-disjoint b ready =
     (in-sets.Invariants.four-members b ready, in-sets.Invariants.one_set b ready, in-sets.Invariants.riu-not-incoming b ready)
@@ -273,8 +275,10 @@ same_answer = in-sets.SameAnswers.same_answer
 
 -- demand Q-7-5: and every sound state of the one engine means one of the other
 pub some_same :
-    ((s : State) → sound s ≡ true → (set_ready (packed_sets (sets_of s)) ≡ true) × SameState s (unpacked (packed_sets (sets_of s))))
-    × ((b : SetState) → set_ready b ≡ true → (sound (state_of (unpacked b)) ≡ true) × SameState (state_of (unpacked b)) (unpacked b))
+    ((s : State) → sound s ≡ true → (set_ready (packed_sets (sets_of s)) ≡ true)
+    × SameState s (unpacked (packed_sets (sets_of s))))
+    × ((b : SetState) → set_ready b ≡ true → (sound (state_of (unpacked b)) ≡ true)
+    × SameState (state_of (unpacked b)) (unpacked b))
 some_same = (in-sets.SameAnswers.some-sets, in-sets.SameAnswers.some-state)
 
 -- Q-8, LOOK BEFORE APPLYING: `taken log`, the record at the front or the stop; `course`, the records applied; `tallied` counts them, from

@@ -1,7 +1,8 @@
 -- The words of the page. First those that the crates below define, handed on; then its own, which keep its lines short.
 -- Defines: Bytes, cold_state, IsRefused, One, OneLent, Untouched, IsImageOf, AtMost, AtMostFor, StillHeld, every_event, gives, is14,
 -- InState, InPhase, FoundAs, Accepts, Ours, line, modems, mark_many, LooksUp, seen_of, Board, seen_by, last_of, records_by.
-use Rattle.std.specs.Prelude.{ℕ, ◌+◌, ◌*◌, ◌/◌, ◌%◌, ◌≤◌, ◌<◌, ◌≡◌, ◌⊎◌, true, false, cond, List, [], ◌∷◌, map, eqb, pos, neg_ℤ, length, take, get_or}
+use Rattle.std.specs.Prelude.{ℕ, ◌+◌, ◌*◌, ◌/◌, ◌%◌, ◌≤◌, ◌<◌, ◌≡◌, ◌⊎◌, true, false, cond, List}
+use Rattle.std.specs.Prelude.{[], ◌∷◌, map, eqb, pos, neg_ℤ, length, take, get_or}
 use Rattle.onsight.specs.Procedures as onsight
 use Rattle.onsight.specs.declared.procedure.State as onsight-state
 use Rattle.onsight.specs.declared.procedure.Answer as onsight-answer

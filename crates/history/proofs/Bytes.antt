@@ -103,8 +103,12 @@ by_first : (kind : ℕ) (body : KindRow) (s : List ℕ)
     → (is_order s ≡ is_order (kind ∷ []))
     × (is_call s ≡ is_call (kind ∷ 0 ∷ 0 ∷ 0 ∷ 0 ∷ byte s 5 ∷ []))
     × (is_loss s ≡ is_loss (kind ∷ []))
-by_first kind body s e ok =
-    (ap (λ k. is_order (k ∷ [])) e, ap (λ k. is_call (k ∷ 0 ∷ 0 ∷ 0 ∷ 0 ∷ byte s 5 ∷ [])) e, ap (λ k. is_loss (k ∷ [])) e)
+by_first kind body s e ok = (
+  ap (λ k. is_order (k ∷ [])) e,
+  ap (λ k. is_call (k ∷ 0 ∷ 0 ∷ 0 ∷ 0 ∷ byte s 5 ∷ [])) e,
+  ap
+      (λ k. is_loss (k ∷ [])) e,
+)
 
 -- the table of kinds, row by row
 rows_tell : Numbered RowTells 0 kinds

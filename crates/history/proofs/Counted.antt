@@ -165,7 +165,8 @@ module _ (weight : Phase → ℕ) (counts : ℕ → Bool) (order call loss : ℕ
     received-share : (s : State) (bytes : List ℕ)
         → received σ mine s bytes (on_record s bytes action_room)
         ≡ order * among who is_order s bytes (on_record s bytes action_room)
-        + (call * among who is_call s bytes (on_record s bytes action_room) + loss * among who is_loss s bytes (on_record s bytes action_room))
+        + (call * among who is_call s bytes (on_record s bytes action_room)
+        + loss * among who is_loss s bytes (on_record s bytes action_room))
     received-share s bytes = by (reading bytes) (reading-tells bytes) (unread s bytes) (whose s bytes)
       where
         o : Outcome

@@ -185,7 +185,8 @@ answered-interleaved =
 pub own-answers-met :
     (answers_to rbc_two working in_turn
     ≡ map answer_of (trace working (timeout_two.bytes ∷ timeout_two.bytes ∷ timeout_two.bytes ∷ [])))
-    × (map code_and_actions (answers_to rbc_two working in_turn) ≡ (0 ∷ 155 ∷ []) ∷ (0 ∷ 155 ∷ []) ∷ (0 ∷ 22 ∷ []) ∷ [])
+    × (map code_and_actions (answers_to rbc_two working in_turn) ≡ (0 ∷ 155 ∷ []) ∷ (0 ∷ 155 ∷ [])
+    ∷ (0 ∷ 22 ∷ []) ∷ [])
 unfolding working in_turn of_partner answers_to
 own-answers-met = (own-answers working working-sound rbc_two in_turn, refl)
 
@@ -236,7 +237,8 @@ unfolding one_by_one
 interleaved-sums-met = interleaved-sums in_turn one_by_one turns-interleaved (λ bytes. byte bytes 0)
 
 -- instance
-pub interleaved-swaps-met : Interleaved (timeout_two ∷ version_one ∷ drop_four ∷ []) (timeout_two ∷ drop_four ∷ version_one ∷ [])
+pub interleaved-swaps-met : Interleaved (timeout_two ∷ version_one ∷ drop_four ∷ [])
+    (timeout_two ∷ drop_four ∷ version_one ∷ [])
 unfolding version_one drop_four
 interleaved-swaps-met = interleaved-swaps version_one drop_four (timeout_two ∷ []) [] refl
 

@@ -17,7 +17,8 @@ use Rattle.wire.specs.Sums.{sum}
 use Rattle.wire.specs.Refusals.{wrong_length, unknown_kind, out_of_range}
 use Rattle.wire.proofs.Tests.{and_left, and_right, and_both, cond-case, cond-holds, true-false}
 use Rattle.record.specs.Partners.{same_partner, rbc, named_ok}
-use Rattle.record.specs.Records.{message_version, message_call, message_ended, message_means, message_ok, highest_version, partner_in, row_of}
+use Rattle.record.specs.Records.{message_version, message_call, message_ended, message_means, message_ok, highest_version, partner_in}
+use Rattle.record.specs.Records.{row_of}
 use Rattle.record.specs.Records.{known, length_of, reading, KindRow, kinds, no_row}
 use Rattle.record.specs.Ranges.{reading_number}
 use Rattle.record.specs.Ranges.{reading_ok}

@@ -233,7 +233,8 @@ first_alike s ok {x} first = by x s ok first
     by x s ok (past y {ys} {zs} other first) =
         let both = next-sound (next s x) (next-sound s ok x) y in
         let either = next-sound (next s y) (next-sound s ok y) x in
-        alike_same (after (next (next s x) y) (records_of zs)) (after (next (next s y) x) (records_of zs)) (after (next s y) (records_of ys))
+        alike_same (after (next (next s x) y) (records_of zs)) (after (next (next s y) x) (records_of zs))
+        (after (next s y) (records_of ys))
         (alike-after (next (next s x) y) (next (next s y) x) both either (either-alike s ok x y other) zs)
         (by x (next s y) (next-sound s ok y) first)
 

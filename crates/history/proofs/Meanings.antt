@@ -1,8 +1,8 @@
 -- Cross-checks only: rules told a second time.
 -- What demand 3 counts, in the paper's numbers: a record by its bytes, an action by its number, a place by its phase, and how each count
 -- goes on with one record, one action or one place more.
--- Proves: is_order-means, is_call-means, is_loss-means, is_release-means, release_of-means, waiting_phase-means, holds_place-means, waits-means,
--- places_held-more, held_tries-means, count-more, after_more, orders-more, calls-more, losses-more, orders_of-more,
+-- Proves: is_order-means, is_call-means, is_loss-means, is_release-means, release_of-means, waiting_phase-means, holds_place-means,
+-- waits-means, places_held-more, held_tries-means, count-more, after_more, orders-more, calls-more, losses-more, orders_of-more,
 -- calls_of-more, losses_of-more, actions-more, actions_of-more, releases-more, releases_of-more, sent-more, bounds-in-n,
 -- one_to_nine-means, started-means, rbc5-means, held_to-means, sums_of-means.
 use mathlib.Core.Path.{◌≡◌, refl, sym, ap, ◌∙◌}

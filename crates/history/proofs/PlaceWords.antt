@@ -1,8 +1,8 @@
 -- Cross-checks only: rules told a second time.
 -- What words of the promises on a turn, on an event and on a reading mean, in the paper's numbers.
 -- Proves: own_numbers-means, first_tries-means, afresh-means, on_next-means, phase_ok-means, fits_incoming-means, next_sound-means,
--- seat_of-means, reading_number-means, partner_event_ok-means, named_ok-means, event_ok-means, reading_ok-means, ranged-means, taken_ok-means,
--- not_ending-means, version_of-means.
+-- seat_of-means, reading_number-means, partner_event_ok-means, named_ok-means, event_ok-means, reading_ok-means, ranged-means,
+-- taken_ok-means, not_ending-means, version_of-means.
 use mathlib.Core.Path.{◌≡◌, refl, sym, ap, ◌∙◌}
 use mathlib.Core.Logic.{◌↔◌, ◌⊎◌, inl, inr}
 use mathlib.Core.Bool.{Bool, true, false, cond, ◌||◌, not}
@@ -66,7 +66,8 @@ own_numbers-means ns = (each ns, whole ns)
         one n (eqb n 21) (eqb n 22) refl refl (and_left (eqb n 21 || eqb n 22) (own_numbers rest) own)
     each (n ∷ rest) own (suc i) below = each rest (and_right (eqb n 21 || eqb n 22) (own_numbers rest) own) i (omega arith)
 
-    whole : (ns : List ℕ) → ((i : ℕ) → i < length ns → (get_or ns i 0 ≡ 21) ⊎ (get_or ns i 0 ≡ 22)) → own_numbers ns ≡ true
+    whole : (ns : List ℕ) → ((i : ℕ) → i < length ns → (get_or ns i 0 ≡ 21) ⊎ (get_or ns i 0 ≡ 22))
+        → own_numbers ns ≡ true
     whole [] all = refl
     whole (n ∷ rest) all =
         and_both (eqb n 21 || eqb n 22) (own_numbers rest) (back n (all 0 (omega arith)))

@@ -199,7 +199,8 @@ lower-places (p ∷ ps) (suc i) rest after below =
     ∙ lower-places ps i rest after (le_of_suc-le-suc below))
 
 -- a place
-module _ (old : List ℕ) (long : length old ≡ size_a2) (i at : ℕ) (below : i < place_count) (begins : at ≡ places_at + place_size * i)
+module _ (old : List ℕ) (long : length old ≡ size_a2) (i at : ℕ) (below : i < place_count)
+    (begins : at ≡ places_at + place_size * i)
     (image fields : List ℕ) (count : ℕ) (so_far : MendedTo old (6 + i) at image fields count) where
   abbrev left_here : List Place
   left_here = (mended (drop 1 old)).places
@@ -251,7 +252,8 @@ module _ (old : List ℕ) (long : length old ≡ size_a2) (i at : ℕ) (below : 
 
   pub place-next : (limits : Limits) (good : Bool) (image' fields' : List ℕ) (count' : ℕ)
       → limits ≡ (state_in (drop 1 old)).limits
-      → good ≡ (is_place_of limits (drop at image) && absent_from (places_in i (drop places_at image)) (place_in (drop at image)).holding)
+      → good ≡ (is_place_of limits (drop at image)
+      && absent_from (places_in i (drop places_at image)) (place_in (drop at image)).holding)
       → Cleared good at place_size image fields count image' fields' count'
       → MendedTo old (6 + i + 1) (at + place_size) image' fields' count'
   place-next limits good image' fields' count' own test =

@@ -220,7 +220,8 @@ module _ (old : List ℕ) where
     mended-past so_far = record {
       stands =
           so_far.stands
-          ∙ ap (◌++◌ (take 37 (left old))) (drop-cons old 37 0 (omega (arith, long)) ∙ ap (λ b. b ∷ drop 38 old) (sym left-tries))
+          ∙ ap (◌++◌ (take 37 (left old))) (drop-cons old 37 0 (omega (arith, long))
+          ∙ ap (λ b. b ∷ drop 38 old) (sym left-tries))
           ∙ sym (append_assoc (take 37 (left old)) (byte (left old) 37 ∷ []) (drop 38 old))
           ∙ ap (λ l. l ++ drop 38 old) (sym (take-suc (left old) 37 0 (omega (arith, left-long old))));
       lists = so_far.lists;

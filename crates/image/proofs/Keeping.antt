@@ -22,7 +22,8 @@ use Rattle.unit.specs.Lasts.{last_ok}
 use Rattle.unit.specs.States.{some, absent_from}
 use Rattle.unit.specs.declared.last.Last.{Last}
 use Rattle.unit.specs.declared.last.Last.TheVariants.{Unknown, Known}
-use Rattle.image.specs.Images.{size_a2, place_size, place_bytes, last_size, last_bytes, phase_of, direction_of, held_in, place_in, places_in}
+use Rattle.image.specs.Images.{size_a2, place_size, place_bytes, last_size, last_bytes, phase_of, direction_of, held_in, place_in}
+use Rattle.image.specs.Images.{places_in}
 use Rattle.image.specs.Images.{same_bytes}
 use Rattle.image.specs.Bodies.{places_at, last_at}
 use Rattle.image.specs.Rescue.{is_place_of, is_last_of}
@@ -117,7 +118,8 @@ module _ (image : List ℕ) (at : ℕ) where
   pub held-here : (byte image at ≡ 0 → ⊥)
       → seat (direction_of (byte image (at + 1))) (phase_of (byte image at) (byte image (at + 2))) (partner_at 3 s) ≡ place_in s
   held-here held =
-      (λ i. seat (direction_of (sym (get_or-drop at image 1 0) i)) (phase_of (sym first i) (sym (get_or-drop at image 2 0) i)) (partner_at 3 s))
+      (λ i. seat (direction_of (sym (get_or-drop at image 1 0) i)) (phase_of (sym first i) (sym (get_or-drop at image 2 0) i))
+      (partner_at 3 s))
       ∙ sym (place-some held)
 
   module _ (limits : Limits) (lower : List Place) where

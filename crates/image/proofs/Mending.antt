@@ -173,7 +173,8 @@ place_same : (l : Limits) (k : Holding) (rest : List ℕ)
     → place_ok l (record { holding = k }) ≡ true
     → mend_place l (place_bytes (record { holding = k }) ++ rest) ≡ record { holding = k }
 place_same l k rest good =
-    ap (λ b. cond b (place_in s) vacant) (and_both (place_ok l (place_in s)) (same_bytes (place_bytes (place_in s)) (take place_size s)) ok own)
+    ap (λ b. cond b (place_in s) vacant) (and_both (place_ok l (place_in s))
+    (same_bytes (place_bytes (place_in s)) (take place_size s)) ok own)
     ∙ read
   where
     s : List ℕ

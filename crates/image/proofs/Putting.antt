@@ -64,7 +64,8 @@ module _ (s : State) (buffer : List ℕ) (four : length s.places ≡ place_count
   -- a kind and the head, then the four places, then what stood there
   pub body_end : (kind : ℕ)
       → size_a1 ≤ length buffer
-      → FilledTo place_bytes 9 s.places (sets buffer 0 (kind ∷ head_bytes s)) 4 size_a1 ≡ (kind ∷ body_bytes s) ++ drop size_a1 buffer
+      → FilledTo place_bytes 9 s.places (sets buffer 0 (kind ∷ head_bytes s)) 4 size_a1 ≡ (kind ∷ body_bytes s)
+      ++ drop size_a1 buffer
   unfolding body_bytes
   body_end kind room =
       ap (λ b. FilledTo place_bytes 9 s.places b 4 size_a1) headed

@@ -179,7 +179,8 @@ module _ (image : List ℕ) where
   pub rescue-unlimited :
       limits_ok (state_in (drop 1 image)).limits ≡ false
       → (listing (read_a2 image).code [] ≡ rescue image) × (image ≡ rescued image)
-  rescue-unlimited bad = rescue-leaves (ap (◌&&◌ (eqb (read_a2 image).code not_sound)) bad ∙ and-false (eqb (read_a2 image).code not_sound))
+  rescue-unlimited bad = rescue-leaves (ap (◌&&◌ (eqb (read_a2 image).code not_sound)) bad
+      ∙ and-false (eqb (read_a2 image).code not_sound))
 
   pub rescue-readable :
       ((read_a2 image).code ≡ not_sound → ⊥)

@@ -50,7 +50,8 @@ body-read : (s : State) → sound s ≡ true → read_body (whole_bytes s) ≡ r
 body-read s ok =
     ap (λ x. cond (is_body_of x (whole_bytes s)) (record { code = accepted; state = x }) (read_refused not_sound))
     (state_in-whole s (sound-facts s ok).four)
-    ∙ ap (λ b. cond b (record { code = accepted; state = s }) (read_refused not_sound)) ((is_body_of-means s (whole_bytes s)).1 (ok, refl))
+    ∙ ap (λ b. cond b (record { code = accepted; state = s }) (read_refused not_sound))
+    ((is_body_of-means s (whole_bytes s)).1 (ok, refl))
 
 sized-read : (s : State) (size : ℕ) (image body : List ℕ)
     → sound s ≡ true

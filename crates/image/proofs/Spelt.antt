@@ -248,7 +248,8 @@ module _ (body : List ℕ) (long : length body ≡ 41) (i at : ℕ) (begins : at
       so_far
       ∙ ap (λ k. PlacesSpelt k (drop at body)) next
       ∙ spelt-next (place_count - (i + 1)) (drop at body) room
-      ∙ ap (λ l. same_bytes (place_bytes (place_in (drop at body))) (take place_size (drop at body)) && PlacesSpelt (place_count - (i + 1)) l)
+      ∙ ap (λ l. same_bytes (place_bytes (place_in (drop at body))) (take place_size (drop at body))
+      && PlacesSpelt (place_count - (i + 1)) l)
       (drop-drop place_size at body)
 
 module _ (body : List ℕ) (long : length body ≡ 41) where
@@ -321,4 +322,5 @@ module _ (body : List ℕ) (long : length body ≡ 41) where
       later : same_bytes after (drop 28 (drop head_size body)) ≡ same_bytes (last_bytes (state_in body).last) tail
       later =
           ap (same_bytes after) (drop-drop 28 head_size body ∙ drop-cons body old_body_size 0 (omega arith))
-          ∙ ap (λ t. t && same_bytes (last_bytes (state_in body).last) tail) (eq-eqb (byte body old_body_size) (byte body old_body_size) refl)
+          ∙ ap (λ t. t && same_bytes (last_bytes (state_in body).last) tail)
+          (eq-eqb (byte body old_body_size) (byte body old_body_size) refl)

@@ -1,8 +1,10 @@
 -- Document 01, "Stored image", and request Q-4: the bytes of a state as A1 and as A2, and the state of such bytes.
--- Defines: kind_a1, kind_a2, size_a1, size_a2, place_size, place_bytes, head_bytes, body_bytes, last_size, last_bytes, whole_bytes, image_a1, image_a2,
--- is_unknown, fits_a1, stored, needs_a2, needs_a1, write_a2, write_a1, imaged_a2, imaged_a1, phase_of, direction_of, held_in, place_in, places_in,
--- head_size, old_body_size, last_in, state_in, same_bytes, read_refused, is_body_of, tail_of_a1, read_as, read_a2, read_image.
-use Rattle.std.specs.Prelude.{ℕ, zero, suc, ◌+◌, ◌*◌, Bool, true, false, cond, ◌&&◌, not, List, [], ◌∷◌, ◌++◌, eqb, leb, length, get_or, drop, replicate}
+-- Defines: kind_a1, kind_a2, size_a1, size_a2, place_size, place_bytes, head_bytes, body_bytes, last_size, last_bytes, whole_bytes,
+-- image_a1, image_a2,
+-- is_unknown, fits_a1, stored, needs_a2, needs_a1, write_a2, write_a1, imaged_a2, imaged_a1, phase_of, direction_of, held_in, place_in,
+-- places_in, head_size, old_body_size, last_in, state_in, same_bytes, read_refused, is_body_of, tail_of_a1, read_as, read_a2, read_image.
+use Rattle.std.specs.Prelude.{ℕ, zero, suc, ◌+◌, ◌*◌, Bool, true, false, cond, ◌&&◌, not, List, [], ◌∷◌, ◌++◌, eqb}
+use Rattle.std.specs.Prelude.{leb, length, get_or, drop, replicate}
 use Rattle.wire.specs.Blocks.{blocks}
 use Rattle.wire.specs.Bytes.{byte, is_empty, flag, as_bit}
 use Rattle.wire.specs.Orders.{first_that_applies}
@@ -172,8 +174,8 @@ abbrev pub tail_of_a1 : List ℕ
 tail_of_a1 = fleet_tries ∷ last_bytes Unknown
 
 -- "Image read: 1 (empty), 2, 1 (length), 11": whether the first byte is a kind that is read, the size of that kind, the bytes behind it as
--- A2 has them (for A1 with `tail_of_a1` added), and the image. It is accepted exactly where these bytes are the body of the image of a sound
--- state, which is then the one that they decode to
+-- A2 has them (for A1 with `tail_of_a1` added), and the image. It is accepted exactly where these bytes are the body of the image of a
+-- sound state, which is then the one that they decode to
 abbrev pub read_as : Bool → ℕ → List ℕ → List ℕ → Started
 read_as known size body image =
     first_that_applies read_refused

@@ -1,6 +1,7 @@
 -- Only private contracts and laws use what stands here: an image A2 while it is mended, field after field, and the list that grows with it.
 -- Defines: head_fields, tries_at, Mendable, Field, Cleared, MendedTo.
-use Rattle.std.specs.Prelude.{◌≡◌, ℕ, ◌+◌, ◌*◌, ◌≤◌, ◌<◌, Bool, cond, List, ◌++◌, length, get_or, set, take, drop, replicate}
+use Rattle.std.specs.Prelude.{◌≡◌, ℕ, ◌+◌, ◌*◌, ◌≤◌, ◌<◌, Bool, cond, List, ◌++◌, length, get_or, set, take}
+use Rattle.std.specs.Prelude.{drop, replicate}
 use Rattle.std.proofs.lemmas.List.Edits.{sets}
 use Rattle.wire.specs.Bytes.{byte}
 use Rattle.wire.specs.Refusals.{accepted}

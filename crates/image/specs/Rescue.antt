@@ -1,7 +1,8 @@
 -- Request Q-13: a spoilt image A2 is mended, and what was mended is listed.
--- Defines: within, mend_train, mend_marks, is_place_of, mend_place, mend_places, keep, keep_first, is_last_of, mend_last, mended, field_offsets,
--- most_fields, size_of, part, changed, listing, told, spoilt, left, rescue, rescued.
-use Rattle.std.specs.Prelude.{ℕ, zero, suc, ◌+◌, Bool, cond, ◌&&◌, not, List, [], ◌∷◌, ◌++◌, eqb, leb, length, take, drop, replicate}
+-- Defines: within, mend_train, mend_marks, is_place_of, mend_place, mend_places, keep, keep_first, is_last_of, mend_last, mended,
+-- field_offsets, most_fields, size_of, part, changed, listing, told, spoilt, left, rescue, rescued.
+use Rattle.std.specs.Prelude.{ℕ, zero, suc, ◌+◌, Bool, cond, ◌&&◌, not, List, [], ◌∷◌, ◌++◌, eqb, leb, length, take}
+use Rattle.std.specs.Prelude.{drop, replicate}
 use Rattle.wire.specs.Refusals.{accepted, not_sound}
 use Rattle.record.specs.Records.{highest_level, mission_under_way}
 use Rattle.place.specs.Places.{vacant, place_ok}

@@ -1,5 +1,6 @@
 // Reading an image: the state that its bytes stand for, where it is sound and they are the bytes that it writes.
-ghost use Rattle.std.specs.Prelude.{◌≡◌, ◌+◌, ◌*◌, ◌≤◌, ◌<◌, [], ◌∷◌, ◌++◌, eqb, length, take, drop, replicate};
+ghost use Rattle.std.specs.Prelude.{◌≡◌, ◌+◌, ◌*◌, ◌≤◌, ◌<◌, [], ◌∷◌, ◌++◌};
+ghost use Rattle.std.specs.Prelude.{eqb, length, take, drop, replicate};
 ghost use Rattle.wire.specs.Bytes.{flag, as_bit};
 ghost use Rattle.place.specs.Places.{phase_number, tries, direction_number, seat};
 ghost use Rattle.unit.specs.States.{place_count};

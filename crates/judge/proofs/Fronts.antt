@@ -52,7 +52,8 @@ record-split (k ∷ a) (j ∷ b) x y one two e =
     same-front (k ∷ a) (j ∷ b) x y (record-long k a one ∙ ap length_of kind ∙ sym (record-long j b two)) e
 
 -- it is taken off whole
-pub record-taken : (bytes more : List ℕ) → is_record bytes ≡ true → take_one (bytes ++ more) ≡ Whole (length bytes) (reading bytes)
+pub record-taken : (bytes more : List ℕ) → is_record bytes ≡ true → take_one (bytes ++ more)
+    ≡ Whole (length bytes) (reading bytes)
 unfolding take_one
 record-taken [] more is = true-false false is refl
 record-taken (kind ∷ rest) more is =
@@ -96,7 +97,8 @@ front-is (kind ∷ rest) = by (known kind) refl (leb (length_of kind) (length (k
         → known kind ≡ a
         → (b : Bool)
         → leb k (length (kind ∷ rest)) ≡ b
-        → Front (kind ∷ rest) (cond a (cond b (Whole k (reading (take k (kind ∷ rest)))) (Stopped record_short)) (Stopped kind_unknown))
+        → Front (kind ∷ rest) (cond a (cond b (Whole k (reading (take k (kind ∷ rest)))) (Stopped record_short))
+        (Stopped kind_unknown))
     by true is true fits =
         let enough = leb-true k (length (kind ∷ rest)) fits in
         let long : length (take k (kind ∷ rest)) ≡ k = length-take-le k (kind ∷ rest) enough in

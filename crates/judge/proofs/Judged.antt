@@ -61,7 +61,8 @@ more-read d ds rest at p (all tail cut) =
 more-read d ds rest at p (fails met left e tail among cut wrong) =
     let before = blocks due_bytes met in
     subst (λ k. Read (d ∷ ds) (due_bytes d ++ rest) at (point_at (against e tail) k e)) (past at (due_bytes d) before)
-    (fails (d ∷ met) left e tail (ap (◌∷◌ d) among) (ap (◌++◌ (due_bytes d)) cut ∙ sym (append_assoc (due_bytes d) before tail)) wrong)
+    (fails (d ∷ met) left e tail (ap (◌∷◌ d) among)
+    (ap (◌++◌ (due_bytes d)) cut ∙ sym (append_assoc (due_bytes d) before tail)) wrong)
 
 pub dues-read : (ds : List Due) (sheet : List ℕ) (at : ℕ)
     → All (λ d. is_due d ≡ true) ds
@@ -115,7 +116,8 @@ more-judged s bytes rest at n v is (faulty front tail d cut way wrong) =
     let count : n + suc (entries way) ≡ n + 1 + entries way = omega arith in
     subst (λ m. Judged s (entry ++ rest) at n (verdict_at m (point_at (against d tail) (at + length entry + length front) d))) count
     (subst (λ k. Judged s (entry ++ rest) at n (verdict_at (n + suc (entries way)) (point_at (against d tail) k d))) (past at entry front)
-    (faulty (entry ++ front) tail d (ap (◌++◌ entry) cut ∙ sym (append_assoc entry front tail)) (beyond bytes front is way refl) wrong))
+    (faulty (entry ++ front) tail d (ap (◌++◌ entry) cut ∙ sym (append_assoc entry front tail))
+    (beyond bytes front is way refl) wrong))
 
 -- the walk over so many event records finds that
 abbrev Found : ℕ → Type 0

@@ -70,7 +70,8 @@ standing-wrong AnEvent (kind ∷ x) y long wrong right = by (length_by kind) (le
     by zero some right = omega arith
     by (suc j) some right =
         let unknown = (event-wrong kind x).0 wrong in
-        true-false (is_right (against AnEvent (kind ∷ (take j x ++ y)))) right (ap is_right ((event-wrong kind (take j x ++ y)).1 unknown))
+        true-false (is_right (against AnEvent (kind ∷ (take j x ++ y)))) right
+        (ap is_right ((event-wrong kind (take j x ++ y)).1 unknown))
 standing-wrong (TheAnswer code) x y long wrong right =
     compared-wrong (due_bytes (TheAnswer code)) x y (length_by (byte x 0)) (length_by-some (byte x 0))
     (λ same. ap length_by same ∙ long refl)

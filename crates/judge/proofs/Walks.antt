@@ -139,7 +139,8 @@ module _ (sheet : List ℕ) (start : State) (from : ℕ) where
           unfolding stepped
           turns =
               sym (judged-turn (Whole k r) (sym whole))
-              ∙ ap (λ l. from-point (dues_at (dues (on_record s l action_room)) sheet (at + k)) (on_record s l action_room).state) (sym lent)
+              ∙ ap (λ l. from-point (dues_at (dues (on_record s l action_room)) sheet (at + k))
+              (on_record s l action_room).state) (sym lent)
               ∙ ap₂ from-point (sym due-here) (sym (ap (λ (x : Stepped). x.state) answers))
 
           pub judged-more : is_right p.stands ≡ true → Judged answer.state p.at (records + 1)

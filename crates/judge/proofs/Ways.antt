@@ -221,7 +221,8 @@ rows_alike s (a ∷ row) (b ∷ more) bytes again met left past ahead d e whole 
     let split =
     entry-split s a b (sheet_of (after a) row ++ one) (sheet_of (after b) more ++ two) (and_left (is_record a) (are_records row) whole)
     (and_left (is_record b) (are_records more) all)
-    (sym (append_assoc (entry_at s a) (sheet_of (after a) row) one) ∙ cut ∙ append_assoc (entry_at s b) (sheet_of (after b) more) two) in
+    (sym (append_assoc (entry_at s a) (sheet_of (after a) row) one) ∙ cut
+    ∙ append_assoc (entry_at s b) (sheet_of (after b) more) two) in
     ap suc
     (rows_alike (after a) row more bytes again met left past ahead d e (and_right (is_record a) (are_records row) whole)
     (and_right (is_record b) (are_records more) all)

@@ -1,7 +1,8 @@
 -- Request Q-9: the judge: what stands at an offset of a sheet, and how far a sheet is ours.
--- Defines: longest_sheet, starts_with, compared, stopped_as, against, stands_at, is_right, point_at, dues_at, on_point, verdict_at, stopped_at,
--- judged_from, judge_refused, judge_from, judgement.
-use Rattle.std.specs.Prelude.{ℕ, zero, suc, ◌+◌, Bool, true, false, cond, ◌&&◌, List, [], ◌∷◌, eqb, leb, ltb, length, take, drop}
+-- Defines: longest_sheet, starts_with, compared, stopped_as, against, stands_at, is_right, point_at, dues_at, on_point, verdict_at,
+-- stopped_at, judged_from, judge_refused, judge_from, judgement.
+use Rattle.std.specs.Prelude.{ℕ, zero, suc, ◌+◌, Bool, true, false, cond, ◌&&◌, List, [], ◌∷◌, eqb, leb, ltb, length, take}
+use Rattle.std.specs.Prelude.{drop}
 use Rattle.wire.specs.Bytes.{byte}
 use Rattle.wire.specs.Refusals.{accepted, log_too_long, bad_limits}
 use Rattle.record.specs.Takes.{nothing_left, record_short, take_one, on_taken}

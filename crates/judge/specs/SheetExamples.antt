@@ -1,6 +1,7 @@
 -- Examples only: nobody has to believe what stands here.
 -- Request Q-9, sheets with what the judge answers them: that of document 01's five records (its P1), the same with one fault, and others.
--- Defines: shown_limits, shown_row, shown_log, shown_sheet, wrong_sheet, rbc_action, JudgedSheet, judged_as, two_closed, two_turned, judged_sheets.
+-- Defines: shown_limits, shown_row, shown_log, shown_sheet, wrong_sheet, rbc_action, JudgedSheet, judged_as, two_closed, two_turned,
+-- judged_sheets.
 use Rattle.std.specs.Prelude.{ℕ, List, [], ◌∷◌, ◌++◌, take, drop}
 use Rattle.record.specs.Partners.{rbc}
 use Rattle.place.specs.declared.limits.Limits.{Limits}

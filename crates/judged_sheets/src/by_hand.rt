@@ -1,6 +1,5 @@
 // States of both engines made by hand, which mean the same.
 use crate::front;
-use libc::STDOUT_FILENO;
 use place::limits::Limits;
 use place::phase::Phase;
 use place::place::{Direction, Place};
@@ -8,18 +7,20 @@ use record::partner::{Partner, RBC};
 use sets::members::{Member, Members};
 use sets::six::SixSets;
 use sets::state::SetState;
+use std::io;
+use streams::buffer;
 use tools::compared::{Differences, put_differences};
 use tools::text::put;
 use unit::last::Last;
 use unit::state::{Marks, State, Train};
 
 // Prints a name and what differs.
-pub(crate) fn say(name: &[u8], found: Differences) {
-    let mut out = io::buffer();
+pub(crate) fn say(rt: &HostRuntime, name: &[u8], found: Differences) -> io::Result<()> {
+    let mut out = buffer();
     let at = put(&mut out, 0, name);
     let at = put_differences(&mut out, at, found);
     let at = put(&mut out, at, b"\n");
-    io::write_all(STDOUT_FILENO, front(&out, at));
+    rt.write_all(front(&out, at))
 }
 
 pub(crate) fn rbc(number: u8) -> Partner {

@@ -1,9 +1,10 @@
 // A log of 30,000 records: the log of five, repeated; its marks, and states in it with and without them.
 use crate::{front, read_after};
-use libc::STDOUT_FILENO;
 use marks::build::{build, extend};
 use marks::mark::{MARK_EVERY, MARK_SIZE};
 use place::limits::{DEFAULT_TRIES, Limits};
+use std::io;
+use streams::{buffer, large_buffer};
 use tools::marked::{MARKS_ROOM, built_text, compared_text, extended_text, odd_text};
 use tools::stepped::{marked_state_text, state_text};
 use tools::text::put;
@@ -35,51 +36,83 @@ fn repeat(block: &[u8], room: &mut [u8]) {
     }
 }
 
-fn say(name: &[u8], room: &[u8], length: usize) {
-    io::write_all(STDOUT_FILENO, name);
-    io::write_all(STDOUT_FILENO, front(room, length));
+fn say(rt: &HostRuntime, name: &[u8], room: &[u8], length: usize) -> io::Result<()> {
+    rt.write_all(name)?;
+    rt.write_all(front(room, length))
 }
 
-fn built(name: &[u8], limits: Limits, log: &[u8], room: &mut [u8]) {
-    let mut out = io::buffer();
+fn built(
+    rt: &HostRuntime,
+    name: &[u8],
+    limits: Limits,
+    log: &[u8],
+    room: &mut [u8],
+) -> io::Result<()> {
+    let mut out = buffer();
     let marked = build(limits, log, room);
     let told = built_text(limits, log, marked, &mut out);
-    say(name, &out, told.length);
+    say(rt, name, &out, told.length)
 }
 
 // Builds the marks afresh, and compares what a file holds with them.
-fn compared(name: &[u8], limits: Limits, log: &[u8], held: &[u8]) {
-    let mut out = io::buffer();
-    let mut room = io::large_buffer();
+fn compared(
+    rt: &HostRuntime,
+    name: &[u8],
+    limits: Limits,
+    log: &[u8],
+    held: &[u8],
+) -> io::Result<()> {
+    let mut out = buffer();
+    let mut room = large_buffer();
     let marked = build(limits, log, &mut room);
     let told = compared_text(limits, log, marked, &room, held, &mut out);
-    say(name, &out, told.length);
+    say(rt, name, &out, told.length)
 }
 
 // Extends the marks that a room holds, so many.
-fn extended(name: &[u8], limits: Limits, log: &[u8], held: usize, room: &mut [u8]) {
-    let mut out = io::buffer();
+fn extended(
+    rt: &HostRuntime,
+    name: &[u8],
+    limits: Limits,
+    log: &[u8],
+    held: usize,
+    room: &mut [u8],
+) -> io::Result<()> {
+    let mut out = buffer();
     let marked = extend(limits, log, held, room);
     let told = extended_text(limits, log, held, marked, &mut out);
-    say(name, &out, told.length);
+    say(rt, name, &out, told.length)
 }
 
-fn odd(name: &[u8], limits: Limits, bytes: usize) {
-    let mut out = io::buffer();
+fn odd(rt: &HostRuntime, name: &[u8], limits: Limits, bytes: usize) -> io::Result<()> {
+    let mut out = buffer();
     let length = odd_text(limits, bytes, &mut out);
-    say(name, &out, length);
+    say(rt, name, &out, length)
 }
 
-fn state(name: &[u8], limits: Limits, log: &[u8], record: usize) {
-    let mut out = io::buffer();
+fn state(
+    rt: &HostRuntime,
+    name: &[u8],
+    limits: Limits,
+    log: &[u8],
+    record: usize,
+) -> io::Result<()> {
+    let mut out = buffer();
     let told = state_text(limits, log, record, &mut out);
-    say(name, &out, told.length);
+    say(rt, name, &out, told.length)
 }
 
-fn marked(name: &[u8], limits: Limits, log: &[u8], marks: &[u8], record: usize) {
-    let mut out = io::buffer();
+fn marked(
+    rt: &HostRuntime,
+    name: &[u8],
+    limits: Limits,
+    log: &[u8],
+    marks: &[u8],
+    record: usize,
+) -> io::Result<()> {
+    let mut out = buffer();
     let told = marked_state_text(limits, log, marks, record, &mut out);
-    say(name, &out, told.length);
+    say(rt, name, &out, told.length)
 }
 
 // Clears a byte.
@@ -93,53 +126,80 @@ fn behind(log: &[u8], at: usize) -> &[u8] {
     if at <= log.len() { &log[at..] } else { log }
 }
 
-fn make(limits: Limits, bad: Limits, log: &[u8], room: &mut [u8]) {
-    built(b"marks, no tries\n", bad, log, room);
-    built(b"marks\n", limits, log, room);
+fn make(
+    rt: &HostRuntime,
+    limits: Limits,
+    bad: Limits,
+    log: &[u8],
+    room: &mut [u8],
+) -> io::Result<()> {
+    built(rt, b"marks, no tries\n", bad, log, room)?;
+    built(rt, b"marks\n", limits, log, room)
 }
 
 // Marks compared with what a file holds.
-fn compare(limits: Limits, bad: Limits, log: &[u8], held: &[u8]) {
+fn compare(
+    rt: &HostRuntime,
+    limits: Limits,
+    bad: Limits,
+    log: &[u8],
+    held: &[u8],
+) -> io::Result<()> {
     let half = front(log, HALF);
     let first = front(held, HALF_MARKS * MARK_SIZE);
-    compared(b"marks, the same\n", limits, log, held);
-    compared(b"marks, no tries, some there\n", bad, log, held);
-    compared(b"marks, some more there\n", limits, half, held);
-    compared(b"marks, some missing\n", limits, log, first);
-    compared(b"marks, one cut\n", limits, log, front(held, MARK_SIZE + 1));
+    compared(rt, b"marks, the same\n", limits, log, held)?;
+    compared(rt, b"marks, no tries, some there\n", bad, log, held)?;
+    compared(rt, b"marks, some more there\n", limits, half, held)?;
+    compared(rt, b"marks, some missing\n", limits, log, first)?;
+    compared(
+        rt,
+        b"marks, one cut\n",
+        limits,
+        log,
+        front(held, MARK_SIZE + 1),
+    )
 }
 
 // Marks extended, of which so many are there.
-fn grow(limits: Limits, log: &[u8], room: &mut [u8]) {
+fn grow(rt: &HostRuntime, limits: Limits, log: &[u8], room: &mut [u8]) -> io::Result<()> {
     let half = front(log, HALF);
-    built(b"marks of half\n", limits, half, room);
-    extended(b"marks, extended\n", limits, log, HALF_MARKS, room);
+    built(rt, b"marks of half\n", limits, half, room)?;
+    extended(rt, b"marks, extended\n", limits, log, HALF_MARKS, room)?;
     compared(
+        rt,
         b"marks, extended, the same\n",
         limits,
         log,
         front(room, MARKS * MARK_SIZE),
-    );
-    odd(b"marks, one cut, not extended\n", limits, MARK_SIZE + 1);
-    odd(b"marks, too many\n", limits, MARKS_ROOM + 1);
-    extended(b"marks, past the log\n", limits, half, MARKS, room);
+    )?;
+    odd(rt, b"marks, one cut, not extended\n", limits, MARK_SIZE + 1)?;
+    odd(rt, b"marks, too many\n", limits, MARKS_ROOM + 1)?;
+    extended(rt, b"marks, past the log\n", limits, half, MARKS, room)
 }
 
 // States by a record's number.
-fn look(limits: Limits, bad: Limits, log: &[u8], marks: &[u8]) {
+fn look(rt: &HostRuntime, limits: Limits, bad: Limits, log: &[u8], marks: &[u8]) -> io::Result<()> {
     let half = front(marks, HALF_MARKS * MARK_SIZE);
-    state(b"state\n", limits, log, LATE);
-    marked(b"state, marks\n", limits, log, marks, LATE);
-    state(b"state, the start\n", limits, log, 0);
-    state(b"state, past the log\n", limits, log, 30_001);
-    state(b"state, no tries\n", bad, log, 1);
-    marked(b"state, marks, past the log\n", limits, log, marks, 30_001);
-    marked(b"state, marks of half\n", limits, log, half, LATE);
+    state(rt, b"state\n", limits, log, LATE)?;
+    marked(rt, b"state, marks\n", limits, log, marks, LATE)?;
+    state(rt, b"state, the start\n", limits, log, 0)?;
+    state(rt, b"state, past the log\n", limits, log, 30_001)?;
+    state(rt, b"state, no tries\n", bad, log, 1)?;
+    marked(
+        rt,
+        b"state, marks, past the log\n",
+        limits,
+        log,
+        marks,
+        30_001,
+    )?;
+    marked(rt, b"state, marks of half\n", limits, log, half, LATE)
 }
 
 // States by marks of another start, and by marks of another log.
-fn look_by_others(limits: Limits, log: &[u8], marks: &[u8]) {
+fn look_by_others(rt: &HostRuntime, limits: Limits, log: &[u8], marks: &[u8]) -> io::Result<()> {
     marked(
+        rt,
         b"state, marks of another start\n",
         Limits {
             lowest: limits.lowest,
@@ -149,65 +209,81 @@ fn look_by_others(limits: Limits, log: &[u8], marks: &[u8]) {
         log,
         marks,
         LATE,
-    );
+    )?;
     let other = behind(log, FIRST);
     marked(
+        rt,
         b"state, marks of another log\n",
         limits,
         other,
         marks,
         INSIDE,
-    );
+    )?;
     marked(
+        rt,
         b"state, marks of another log, a step\n",
         limits,
         other,
         marks,
         INSIDE + 1,
-    );
+    )
 }
 
 // One mark spoilt: of the first its image, of the last its kind.
-fn mark_spoilt(limits: Limits, log: &[u8], room: &mut [u8]) {
+fn mark_spoilt(rt: &HostRuntime, limits: Limits, log: &[u8], room: &mut [u8]) -> io::Result<()> {
     spoil(room, MARK_SIZE - 1);
     compared(
+        rt,
         b"marks, one spoilt\n",
         limits,
         log,
         front(room, MARKS * MARK_SIZE),
-    );
+    )?;
     spoil(room, (MARKS - 1) * MARK_SIZE);
-    extended(b"marks, the last spoilt\n", limits, log, MARKS, room);
-    marked(b"state, marks, the last spoilt\n", limits, log, room, LATE);
+    extended(rt, b"marks, the last spoilt\n", limits, log, MARKS, room)?;
+    marked(
+        rt,
+        b"state, marks, the last spoilt\n",
+        limits,
+        log,
+        room,
+        LATE,
+    )
 }
 
-fn fill(log: &mut [u8]) {
-    let mut block = io::buffer();
-    let n = read_after(b"", b"log.bin", &mut block);
+fn fill(rt: &HostRuntime, log: &mut [u8]) -> io::Result<()> {
+    let mut block = buffer();
+    let n = read_after(rt, b"", b"log.bin", &mut block)?;
     repeat(front(&block, n), log);
+    Ok(())
 }
 
-fn mark_log(limits: Limits, bad: Limits, log: &[u8]) {
-    let mut room = io::large_buffer();
-    make(limits, bad, log, &mut room);
-    compare(limits, bad, log, front(&room, MARKS * MARK_SIZE));
-    grow(limits, log, &mut room);
-    look(limits, bad, log, front(&room, MARKS * MARK_SIZE));
-    look_by_others(limits, log, front(&room, MARKS * MARK_SIZE));
-    mark_spoilt(limits, log, &mut room);
+fn mark_log(rt: &HostRuntime, limits: Limits, bad: Limits, log: &[u8]) -> io::Result<()> {
+    let mut room = large_buffer();
+    make(rt, limits, bad, log, &mut room)?;
+    compare(rt, limits, bad, log, front(&room, MARKS * MARK_SIZE))?;
+    grow(rt, limits, log, &mut room)?;
+    look(rt, limits, bad, log, front(&room, MARKS * MARK_SIZE))?;
+    look_by_others(rt, limits, log, front(&room, MARKS * MARK_SIZE))?;
+    mark_spoilt(rt, limits, log, &mut room)
 }
 
-fn mark_filled(limits: Limits, bad: Limits, log: &mut [u8]) {
-    fill(log);
-    mark_log(limits, bad, log);
+fn mark_filled(rt: &HostRuntime, limits: Limits, bad: Limits, log: &mut [u8]) -> io::Result<()> {
+    fill(rt, log)?;
+    mark_log(rt, limits, bad, log)
 }
 
-fn mark_lent(limits: Limits, bad: Limits, log: &mut [u8; 186000]) {
-    mark_filled(limits, bad, log);
+fn mark_lent(
+    rt: &HostRuntime,
+    limits: Limits,
+    bad: Limits,
+    log: &mut [u8; 186000],
+) -> io::Result<()> {
+    mark_filled(rt, limits, bad, log)
 }
 
 // Prints what is told of the log of 30,000 records, with these limits and with bad ones.
-pub(crate) fn mark_all(limits: Limits, bad: Limits) {
+pub(crate) fn mark_all(rt: &HostRuntime, limits: Limits, bad: Limits) -> io::Result<()> {
     let mut log = [0u8; 186000];
-    mark_lent(limits, bad, &mut log);
+    mark_lent(rt, limits, bad, &mut log)
 }

@@ -96,7 +96,8 @@ module _ (l : Limits) (log more room : List ℕ) (good : limits_ok l ≡ true) (
   unfolding last there longer
   from_last =
       ap (λ x. last_held l longer (marks_in log) (blocks (λ mark. mark) x ++ drop (47 * marks_in log) room)) (sym same-marks)
-      ∙ begun-built (cold l) longer (drop (47 * marks_in log) room) (marks_in log) (marks_in log) 10 (cold-good l good) short (omega arith)
+      ∙ begun-built (cold l) longer (drop (47 * marks_in log) room) (marks_in log) (marks_in log) 10 (cold-good l good) short
+      (omega arith)
 
   -- the marks held and the new ones are those of the longer log
   all : held_from last longer (marks_in log) ≡ marks_in longer

@@ -69,7 +69,8 @@ module _ (log mark : List ℕ) where
 
 -- a mark that is not there whole, and the mark of a number from 1 on
 module _ (s : State) (log marks : List ℕ) where
-  pub begun-missing : (number missing : ℕ) → length marks < 47 * number → begun_at s log marks number missing ≡ begun_refused missing
+  pub begun-missing : (number missing : ℕ) → length marks < 47 * number → begun_at s log marks number missing
+      ≡ begun_refused missing
   unfolding begun_at
   begun-missing zero missing few = absurd (omega arith)
   begun-missing (suc i) missing few = simp (lt-leb (47 * suc i) (length marks) few)

@@ -24,7 +24,8 @@ use Rattle.marks.proofs.Running.{run-many, many-within}
 use Rattle.marks.proofs.Starting.{Begins, number-limits, number-log, begins-cold, begins-fine, number-begun, number-last}
 
 module _ (l : Limits) (log marks : List ℕ) (n : ℕ) where
-  refuses : (code : ℕ) → look_code l log marks n ≡ code → (code ≡ accepted → ⊥) → look_refused code ≡ looked_up l log marks n
+  refuses : (code : ℕ) → look_code l log marks n ≡ code → (code ≡ accepted → ⊥) → look_refused code
+      ≡ looked_up l log marks n
   unfolding looked_up
   refuses code is other =
       let test : eqb (look_code l log marks n) accepted ≡ false = ap (λ k. eqb k accepted) is ∙ ne_eqb code accepted other in

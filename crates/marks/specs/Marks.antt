@@ -1,7 +1,8 @@
 -- Request Q-12: what a mark is, which marks a log has, and where a mark leads.
--- Defines: mark_kind, mark_every, image_at, mark_size, four_bytes, offset_in, mark_of, records_in, whole_records, after_many, marks_from, mark_count,
--- begun_refused, mark_in, begun_at.
-use Rattle.std.specs.Prelude.{ℕ, zero, suc, ◌+◌, ◌*◌, ◌/◌, ◌%◌, cond, ◌&&◌, List, [], ◌∷◌, ◌++◌, eqb, leb, length, take, drop}
+-- Defines: mark_kind, mark_every, image_at, mark_size, four_bytes, offset_in, mark_of, records_in, whole_records, after_many, marks_from,
+-- mark_count, begun_refused, mark_in, begun_at.
+use Rattle.std.specs.Prelude.{ℕ, zero, suc, ◌+◌, ◌*◌, ◌/◌, ◌%◌, cond, ◌&&◌, List, [], ◌∷◌, ◌++◌, eqb, leb}
+use Rattle.std.specs.Prelude.{length, take, drop}
 use Rattle.wire.specs.Bytes.{byte}
 use Rattle.wire.specs.Refusals.{accepted, not_sound}
 use Rattle.record.specs.Takes.{take_one, on_taken}

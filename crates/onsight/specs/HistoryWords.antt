@@ -2,7 +2,8 @@
 -- Further words on histories of request Q-1: what each event met, answers, accepted events, tests on a state and on an event, and
 -- histories that are as long as can be.
 -- Defines: Met, met, end_of, codes, accepted_of, accepted_in, last_is, any_is, is_idle, is_late, is_done, is_profile, is_expiry,
--- is_acknowledgement, expiry_in_late, ends, brings_os, asks_for_acknowledgement, every, unacknowledged, most_accepted, longest, way_to, way_to_done.
+-- is_acknowledgement, expiry_in_late, ends, brings_os, asks_for_acknowledgement, every, unacknowledged, most_accepted, longest, way_to,
+-- way_to_done.
 use Rattle.std.specs.Prelude.{ℕ, Bool, true, false, cond, ◌&&◌, ◌||◌, not, List, [], ◌∷◌, map, eqb}
 use Rattle.onsight.specs.Cases.{by_state, by_profile, by_event}
 use Rattle.onsight.specs.Numbers.{accepted}

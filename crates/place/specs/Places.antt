@@ -1,6 +1,6 @@
 -- Document 01, "What the box remembers", the part on one place.
--- Defines: by_phase, phase_number, tries, direction_number, most_tries, default_tries, fleet_tries, vacant, seat, on_holding, is_free, partner_of,
--- held_phase, holds, tries_ok, phase_ok, fits_incoming, fits, place_ok.
+-- Defines: by_phase, phase_number, tries, direction_number, most_tries, default_tries, fleet_tries, vacant, seat, on_holding, is_free,
+-- partner_of, held_phase, holds, tries_ok, phase_ok, fits_incoming, fits, place_ok.
 use Rattle.std.specs.Prelude.{ℕ, Bool, true, false, ◌&&◌, leb}
 use Rattle.record.specs.Partners.{is_rbc, named_ok, same_partner}
 use Rattle.record.specs.declared.partner.Partner.{Partner}

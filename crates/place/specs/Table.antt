@@ -1,7 +1,8 @@
 -- Document 01, "Rules of one step", the part on one place: the phase table, closing, judging a version.
--- Defines: request, release, incompatible, initiate, terminate, established, first_try, closing, x_of, supported, judged, with_tries, one_more,
--- again, table, column, version_of, turn, on_turn, takes, numbers, in_phase, place_after, in_session, not_ending, closes, closed_by, turned_to,
--- closed_to.
+-- Defines: request, release, incompatible, initiate, terminate, established, first_try, closing, x_of, supported, judged, with_tries,
+-- one_more,
+-- again, table, column, version_of, turn, on_turn, takes, numbers, in_phase, place_after, in_session, not_ending, closes, closed_by,
+-- turned_to, closed_to.
 use Rattle.std.specs.Prelude.{ℕ, ◌+◌, ◌/◌, Bool, true, false, cond, ◌&&◌, List, [], ◌∷◌, leb, ltb, get_or}
 use Rattle.record.specs.Events.{by_event}
 use Rattle.record.specs.Partners.{is_rbc}

@@ -1,7 +1,8 @@
 -- Document 01, "Event records": the table of kinds, and reading one record.
--- Defines: highest_level, mission_ended, mission_starting, mission_under_way, message_version, message_call, message_ended, highest_version,
--- kind_order, kind_loss, kind_message, partner_in, causes, cause_of, KindRow, row, partner_row, message_ok, message_means, no_row, kinds, row_of,
--- length_of, known, reading.
+-- Defines: highest_level, mission_ended, mission_starting, mission_under_way, message_version, message_call, message_ended,
+-- highest_version,
+-- kind_order, kind_loss, kind_message, partner_in, causes, cause_of, KindRow, row, partner_row, message_ok, message_means, no_row, kinds,
+-- row_of, length_of, known, reading.
 use Rattle.std.specs.Prelude.{ℕ, Bool, true, false, cond, ◌&&◌, ◌||◌, not, List, [], ◌∷◌, eqb, leb, ltb, length, get_or}
 use Rattle.record.specs.Partners.{partner_ok, named_ok, partner_at}
 use Rattle.wire.specs.Bytes.{byte, is_empty, bit, flag}

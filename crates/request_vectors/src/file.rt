@@ -7,8 +7,11 @@ use crate::marking::marking_holds;
 use crate::part::short_at;
 use crate::setting::setting_holds;
 use crate::shunting::shunting_holds;
-use libc::STDOUT_FILENO;
+use std::io;
+use std::io::Read;
 use std::num::wrapping_add_u64;
+use streams::files::open_read;
+use streams::{fail, read_full};
 use wire::byte::byte_at;
 
 // The room for a vector.
@@ -37,14 +40,6 @@ struct Progress {
     more: bool,
 }
 
-fn say(words: &[u8]) {
-    io::write_all(STDOUT_FILENO, words);
-}
-
-fn number(n: u64) {
-    io::print_decimal(STDOUT_FILENO, n);
-}
-
 // 1 where a test passes.
 fn one(test: bool) -> u64 {
     if test { 1 } else { 0 }
@@ -70,13 +65,11 @@ fn holds(v: &[u8], subject: Subject) -> bool {
 }
 
 // Names a vector that differs by its number in the file, from 0.
-fn tell(holds: bool, ordinal: u64) {
+fn tell(out: &impl Print, holds: bool, ordinal: u64) -> io::Result<()> {
     if holds {
-        return;
+        return Ok(());
     }
-    say(b"differs: vector ");
-    number(ordinal);
-    say(b"\n");
+    println!(out; "differs: vector {ordinal}")
 }
 
 impl Progress {
@@ -101,50 +94,49 @@ impl Progress {
     }
 
     // One more vector.
-    fn add(self, v: &[u8]) -> Progress {
+    fn add(self, out: &impl Print, v: &[u8]) -> io::Result<Progress> {
         let subject = self.subject;
         let good = holds(v, subject);
-        tell(good, self.tried);
-        Progress {
+        tell(out, good, self.tried)?;
+        Ok(Progress {
             subject,
             tried: wrapping_add_u64(self.tried, 1),
             differ: wrapping_add_u64(self.differ, one(!good)),
             more: true,
-        }
+        })
     }
 
     // Reads a vector that fills this room.
-    fn read(self, fd: i32, body: &mut [u8]) -> Progress {
-        let got = io::read_full(fd, body);
+    fn read(self, out: &impl Print, file: &mut impl Read, body: &mut [u8]) -> io::Result<Progress> {
+        let got = read_full(file, body)?;
         if got < body.len() {
-            return self.ended(false);
+            return Ok(self.ended(false));
         }
-        self.add(body)
+        self.add(out, body)
     }
 
     // Reads and tries the next vector, if there is one.
-    fn next(self, fd: i32) -> Progress {
+    fn next(self, out: &impl Print, file: &mut impl Read) -> io::Result<Progress> {
         let mut head = [0u8; 2];
-        let got = io::read_full(fd, &mut head);
+        let got = read_full(file, &mut head)?;
         if got == 0 {
-            return self.ended(true);
+            return Ok(self.ended(true));
         }
         if got == 1 {
-            return self.ended(false);
+            return Ok(self.ended(false));
         }
         let length = short_at(&head, 0);
         if length > LONGEST {
-            return self.ended(false);
+            return Ok(self.ended(false));
         }
         let mut body = longest_vector();
-        self.read(fd, &mut body[0..length])
+        self.read(out, file, &mut body[0..length])
     }
 
-    fn write(self) {
-        number(self.tried);
-        say(b" vectors, ");
-        number(self.differ);
-        say(b" differ\n");
+    fn write(self, out: &impl Print) -> io::Result<()> {
+        let tried = self.tried;
+        let differ = self.differ;
+        println!(out; "{tried} vectors, {differ} differ")
     }
 }
 
@@ -156,31 +148,29 @@ fn longest_vector() -> [u8; 16384]
 }
 
 // A proved loop has to end, and nothing says that a file does: the turns are counted down from a number that no run uses up.
-fn read_all(fd: i32, subject: Subject) -> Progress {
+fn read_all(out: &impl Print, file: &mut impl Read, subject: Subject) -> io::Result<Progress> {
     let mut progress = Progress::none(subject);
     let mut turns = u64::MAX;
     loop {
         if turns == 0 {
-            break progress;
+            break;
         }
-        progress = progress.next(fd);
+        progress = progress.next(out, file)?;
         if progress.more {
             turns -= 1;
         } else {
-            break progress;
+            break;
         }
     }
+    Ok(progress)
 }
 
-// Tries all vectors of a file, names those that differ, and writes how many there are.
-pub(crate) fn try_file(name: &[u8], subject: Subject) {
-    say(name);
-    say(b"\n");
-    let fd = os::open_read(name);
-    if fd < 0 {
-        os::fail(name);
-        return;
+// Tries all vectors of a file, names those that differ, and writes how many there are; that it cannot be opened is told on standard error.
+pub(crate) fn try_file(rt: &HostRuntime, name: &[u8], subject: Subject) -> io::Result<()> {
+    rt.write_all(name)?;
+    rt.write_all(b"\n")?;
+    match open_read(rt, name) {
+        Ok(mut file) => read_all(rt, &mut file, subject)?.write(rt),
+        Err(error) => fail(&rt.stderr(), rt.alloc(), name, error),
     }
-    read_all(fd, subject).write();
-    libc::close(fd);
 }

@@ -12,14 +12,15 @@ mod setting;
 mod shunting;
 
 use crate::file::{Subject, try_file};
+use std::io;
 
-fn main() {
-    try_file(b"judge.bin", Subject::Sheets);
-    try_file(b"judge_spoilt.bin", Subject::Sheets);
-    try_file(b"marks.bin", Subject::Marks);
-    try_file(b"marks_spoilt.bin", Subject::Marks);
-    try_file(b"shunter.bin", Subject::Shunters);
-    try_file(b"shunter_spoilt.bin", Subject::Shunters);
-    try_file(b"sets.bin", Subject::Sets);
-    try_file(b"sets_spoilt.bin", Subject::Sets);
+fn main(rt: HostRuntime) -> io::Result<()> {
+    try_file(&rt, b"judge.bin", Subject::Sheets)?;
+    try_file(&rt, b"judge_spoilt.bin", Subject::Sheets)?;
+    try_file(&rt, b"marks.bin", Subject::Marks)?;
+    try_file(&rt, b"marks_spoilt.bin", Subject::Marks)?;
+    try_file(&rt, b"shunter.bin", Subject::Shunters)?;
+    try_file(&rt, b"shunter_spoilt.bin", Subject::Shunters)?;
+    try_file(&rt, b"sets.bin", Subject::Sets)?;
+    try_file(&rt, b"sets_spoilt.bin", Subject::Sets)
 }

@@ -1,5 +1,8 @@
 // What the words behind a command ask for: a file, the number of a record, options and their values.
+use crate::files::front;
 use place::limits::{FLEET_TRIES, Limits};
+use std::env::{Env, FillError};
+use streams::buffer;
 use tools::started::{FLEET_HIGHEST, FLEET_LOWEST};
 use wire::byte::byte_at;
 use wire::join::{and, negated};
@@ -338,18 +341,16 @@ impl Asked {
         }
     }
 
-    // With the word of this number; none once something is wrong.
-    fn with_word(mut self, at: usize) -> Asked {
+    // With the word of this number, or one that is too long; none once something is wrong.
+    fn with_word(mut self, at: usize, text: &[u8], whole: bool) -> Asked {
         if self.wrong != NOTHING {
             return self;
         }
         self.at = at;
-        let mut room = io::buffer();
-        let n = os::arg(at, &mut room);
-        if os::errno() != 0 {
-            return self.but(WORD_TOO_LONG);
+        if whole {
+            return self.with_text(text);
         }
-        self.with_text(&room[..n])
+        self.but(WORD_TOO_LONG)
     }
 
     // When all words are read: what is missing is wrong.
@@ -375,13 +376,21 @@ impl Asked {
 }
 
 // What the words behind this command ask for.
-pub(crate) fn read_words(command: Command) -> Asked {
-    let count = os::arg_count();
+pub(crate) fn read_words(rt: &HostRuntime, command: Command) -> Asked {
     let mut so_far = Asked::nothing(command);
-    let mut i = 2;
-    while i < count {
-        so_far = so_far.with_word(i);
-        i += 1;
+    for i in 2..usize::MAX {
+        let mut room = buffer();
+        match rt.arg(i, &mut room) {
+            Ok(n) => {
+                so_far = so_far.with_word(i, front(&room, n), true);
+            }
+            Err(FillError::TooLong) => {
+                so_far = so_far.with_word(i, b"", false);
+            }
+            Err(FillError::NotPresent) => {
+                break;
+            }
+        }
     }
     so_far.whole()
 }

@@ -1,6 +1,5 @@
 #![tactic(auto)]
-// One tool over the box. A program of this language ends with status 0, so this one writes its status as a digit to descriptor 3, and the
-// script `resheftal` ends with it.
+// One tool over the box. It ends with the status that the script `resheftal` ends with.
 mod asked;
 mod both;
 mod commands;
@@ -13,14 +12,15 @@ mod shunting;
 use crate::asked::{Asked, Command, NOTHING, UNKNOWN, read_words, same};
 use crate::both::compare_file;
 use crate::commands::{judge_file, produce_file};
+use crate::files::front;
 use crate::finding::state_of;
 use crate::marking::mark_file;
 use crate::say::{help, misused, no_words, version};
 use crate::shunting::shunt_file;
+use std::env::{Env, FillError};
+use std::process::ExitCode;
+use streams::buffer;
 use tools::help::Topic;
-
-// Where the status goes.
-const STATUS: i32 = 3;
 
 fn topic_of(command: Command) -> Topic {
     match command {
@@ -33,69 +33,69 @@ fn topic_of(command: Command) -> Topic {
     }
 }
 
-fn run(asked: Asked) -> u8 {
+fn run(rt: &HostRuntime, asked: Asked) -> u8 {
     let command = asked.command;
     match command {
-        Command::Judge => judge_file(asked),
-        Command::Produce => produce_file(asked),
-        Command::Marks => mark_file(asked),
-        Command::State => state_of(asked),
-        Command::Shunter => shunt_file(asked),
-        Command::Sets => compare_file(asked),
+        Command::Judge => judge_file(rt, asked),
+        Command::Produce => produce_file(rt, asked),
+        Command::Marks => mark_file(rt, asked),
+        Command::State => state_of(rt, asked),
+        Command::Shunter => shunt_file(rt, asked),
+        Command::Sets => compare_file(rt, asked),
     }
 }
 
 // The status of a command with the words behind it.
-fn obeyed(command: Command) -> u8 {
-    let asked = read_words(command);
+fn obeyed(rt: &HostRuntime, command: Command) -> u8 {
+    let asked = read_words(rt, command);
     if asked.help {
-        return help(topic_of(command));
+        return help(rt, topic_of(command));
     }
     if asked.wrong == NOTHING {
-        return run(asked);
+        return run(rt, asked);
     }
-    misused(asked.wrong, asked.at)
+    misused(rt, asked.wrong, asked.at)
 }
 
 // The status of the command of this name.
-fn answer(name: &[u8]) -> u8 {
+fn answer(rt: &HostRuntime, name: &[u8]) -> u8 {
     if same(name, b"judge") {
-        return obeyed(Command::Judge);
+        return obeyed(rt, Command::Judge);
     }
     if same(name, b"produce") {
-        return obeyed(Command::Produce);
+        return obeyed(rt, Command::Produce);
     }
     if same(name, b"marks") {
-        return obeyed(Command::Marks);
+        return obeyed(rt, Command::Marks);
     }
     if same(name, b"state") {
-        return obeyed(Command::State);
+        return obeyed(rt, Command::State);
     }
     if same(name, b"shunter") {
-        return obeyed(Command::Shunter);
+        return obeyed(rt, Command::Shunter);
     }
     if same(name, b"sets") {
-        return obeyed(Command::Sets);
+        return obeyed(rt, Command::Sets);
     }
     if same(name, b"--help") {
-        return help(Topic::Commands);
+        return help(rt, Topic::Commands);
     }
     if same(name, b"--version") {
-        return version();
+        return version(rt);
     }
-    misused(UNKNOWN, 1)
+    misused(rt, UNKNOWN, 1)
 }
 
-// The status of what is asked for.
-fn status() -> u8 {
-    if os::arg_count() < 2 {
-        return no_words();
+// The status of what is asked for. The name of a command that is too long is that of none.
+fn status(rt: &HostRuntime) -> u8 {
+    let mut name = buffer();
+    match rt.arg(1, &mut name) {
+        Ok(n) => answer(rt, front(&name, n)),
+        Err(FillError::TooLong) => answer(rt, b""),
+        Err(FillError::NotPresent) => no_words(rt),
     }
-    let mut name = io::buffer();
-    let n = os::arg(1, &mut name);
-    answer(&name[..n])
 }
 
-fn main() {
-    libc::write(STATUS, &[status()]);
+fn main(rt: HostRuntime) -> ExitCode {
+    ExitCode::from(status(&rt))
 }

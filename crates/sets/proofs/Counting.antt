@@ -153,7 +153,8 @@ count_in-without test p (m ∷ ms) is = by (is_for p m) (count_in-without test p
     by : (b : Bool)
         → (has_member p ms ≡ true → count_in test (without p ms) + as_bit (test (member_for p ms)) ≡ count_in test ms)
         → (b || has_member p ms) ≡ true
-        → count_in test (cond b ms (m ∷ without p ms)) + as_bit (test (cond b m (member_for p ms))) ≡ as_bit (test m) + count_in test ms
+        → count_in test (cond b ms (m ∷ without p ms)) + as_bit (test (cond b m (member_for p ms))) ≡ as_bit (test m)
+        + count_in test ms
     by true rest is = omega arith
     by false rest is =
         let less = rest is in

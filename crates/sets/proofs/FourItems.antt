@@ -1,8 +1,8 @@
 -- A set that is held has room for four: its array's length, as the checker tells it of a parameter.
 -- Proves: four-items.
-use mathlib.Core.Path.{◌≡◌, sym, ◌∙◌}
+use mathlib.Core.Path.{◌≡◌}
 use mathlib.Core.List.{[], ◌∷◌}
-use lib.ListN.{length, length-map}
+use lib.ListN.{length}
 use denote.Laws.{Is}
 use denote.Struct.Declared as declared-type
 use denote.Struct.Laws.{val}
@@ -14,4 +14,4 @@ use Rattle.sets.proofs.members.Members.TheLaws.{the_laws}
 pub four-items : (ms : Members)
     → Is (declared-type.row the_type) ms (val the_type the_laws ms ∷ [])
     → length ms.items ≡ most_members
-four-items ms good = sym (length-map ms.items _) ∙ good.1.1.0.1.0.1
+four-items ms good = good.1.1.0.1.0.1

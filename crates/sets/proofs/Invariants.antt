@@ -119,7 +119,8 @@ module _ (b : SetState) (ready : set_ready b ≡ true) where
       each : SoundEach b.limits (six_in b)
       each = sound-each b.limits (six_in b) (sets-facts (unpacked b) (ready-sound b ready)).members
 
-      by : (w : SetName) → has_member p (set_in w (six_in b)) ≡ true → member_ok b.limits w (member_for p (set_in w (six_in b))) ≡ true
+      by : (w : SetName) → has_member p (set_in w (six_in b)) ≡ true
+          → member_ok b.limits w (member_for p (set_in w (six_in b))) ≡ true
       by Calling is = found-sound (member_ok b.limits Calling) p (six_in b).calling each.calling is
       by Contacted is = found-sound (member_ok b.limits Contacted) p (six_in b).contacted each.contacted is
       by IncomingSessions is = found-sound (member_ok b.limits IncomingSessions) p (six_in b).incoming each.incoming is
@@ -128,7 +129,8 @@ module _ (b : SetState) (ready : set_ready b ≡ true) where
       by TerminatingSessions is = found-sound (member_ok b.limits TerminatingSessions) p (six_in b).terminating each.terminating is
 
   -- the member found is the partner itself
-  itself : (p : Partner) (w : SetName) → has_member p (set_in w (six_in b)) ≡ true → (member_for p (set_in w (six_in b))).partner ≡ p
+  itself : (p : Partner) (w : SetName) → has_member p (set_in w (six_in b)) ≡ true
+      → (member_for p (set_in w (six_in b))).partner ≡ p
   itself p w is = sym (same-eq p (member_for p (set_in w (six_in b))).partner (member_is p (set_in w (six_in b)) is))
 
   -- 000, machine 0, inv1; machine 2, inv1 and inv2; machine 3, inv4: whoever is in a set is on the track side, an RBC or an RIU

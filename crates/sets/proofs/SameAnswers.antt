@@ -112,7 +112,8 @@ module _ (s : State) (b : SetState) (ok : sound s ≡ true) (ready : set_ready b
     where
       by : (c : Bool)
           → SameAnswer (applied s bytes) (apply_sets b bytes)
-          → SameAnswer (cond c (applied s bytes) (refused refusal.no_room s)) (cond c (apply_sets b bytes) (set_refused refusal.no_room b))
+          → SameAnswer (cond c (applied s bytes) (refused refusal.no_room s))
+          (cond c (apply_sets b bytes) (set_refused refusal.no_room b))
       by true h = h
       by false h = refused-same refusal.no_room
 

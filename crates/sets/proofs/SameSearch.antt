@@ -49,7 +49,8 @@ name_number TerminatingSessions = 5
 
 -- by which they are told apart
 name-at : ℕ → SetName
-name-at n = get_or (Calling ∷ Contacted ∷ IncomingSessions ∷ OutgoingSessions ∷ LostSessions ∷ TerminatingSessions ∷ []) n Calling
+name-at n = get_or (Calling ∷ Contacted ∷ IncomingSessions ∷ OutgoingSessions ∷ LostSessions ∷ TerminatingSessions
+    ∷ []) n Calling
 
 -- each set has the name of its number
 name_back : (w : SetName) → name-at (name_number w) ≡ w
@@ -142,7 +143,8 @@ module _ (p : Partner) (ps : List Place) (x : Six) (same : Same ps x) where
     alone v is =
         let held = same (λ w. is_for p) in
         let m = member_for p (set_in v x) in
-        let sum = many-both (others v) (found v) (λ w. is_for p) (λ w m. split (is_for p m) (alike w m v (member_for p (set_in v x)))) x in
+        let sum = many-both (others v) (found v) (λ w. is_for p)
+        (λ w m. split (is_for p m) (alike w m v (member_for p (set_in v x)))) x in
         let taken = count_in-without (found v v) p (set_in v x) is in
         let itself : as_bit (found v v m) ≡ 1 = ap as_bit (and_both _ _ (member_is p (set_in v x) is) (alike-itself v m)) in
         let some = many-in (found v) v x in

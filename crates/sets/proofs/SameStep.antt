@@ -280,7 +280,8 @@ module _ (s : State) (f : Facts s) (x : Six) (same : Same s.places x) where
         phase = refl;
       })
       (λ stays.
-      subst (λ n. SameOutcome (refused_at refusal.not_taken (standing (At i ph)) s) (set_refused_at refusal.not_taken n z)) (phase-same d ph)
+      subst (λ n. SameOutcome (refused_at refusal.not_taken (standing (At i ph)) s) (set_refused_at refusal.not_taken n z))
+      (phase-same d ph)
       (refusal-same refusal.not_taken i (phase_number ph))))
     where
       place_is : get_or s.places i vacant ≡ seat d ph p

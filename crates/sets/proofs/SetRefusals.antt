@@ -24,7 +24,8 @@ use Rattle.unit.specs.declared.answer.Action.{Action}
 use Rattle.sets.specs.Members.{most_members, member_for}
 use Rattle.sets.specs.SixSets.{Sets, set_in, size, whereabouts, on_whereabouts, phase_in, unpacked, packed_sets, set_ready}
 use Rattle.sets.specs.Moves.{move_of, moves}
-use Rattle.sets.specs.SetSteps.{SetOutcome, set_refused_at, set_refused, set_done, set_closed, set_moved, set_named, admitted_to, set_joined}
+use Rattle.sets.specs.SetSteps.{SetOutcome, set_refused_at, set_refused, set_done, set_closed, set_moved, set_named, admitted_to}
+use Rattle.sets.specs.SetSteps.{set_joined}
 use Rattle.sets.specs.SetSteps.{set_ordered, set_received, set_called, set_step}
 use Rattle.sets.specs.OnSets.{set_reading, boxed, apply_sets, on_sets}
 use Rattle.sets.specs.SetRuns.{set_run_refused, set_run}

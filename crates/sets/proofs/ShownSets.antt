@@ -34,8 +34,10 @@ pub shown-session : set_answers set_first one_session
     ∷ took_all (to5 22) (0xFF ∷ 0xFF ∷ 0xFF ∷ 0xFF ∷ 0xFF ∷ [])
     ∷ ((6 ∷ 0 ∷ []) ∷ [] ∷ (0xFF ∷ 0xFF ∷ 0xFF ∷ 0xFF ∷ 0xFF ∷ []) ∷ [])
     ∷ []
-unfolding set_answers set_told on_sets apply_sets set_step set_ordered set_joined set_named set_moved moved move_of set_called set_received set_closed
-    closed_six closing_sent whereabouts has_member member_for without those set_ready tidy_six tidy sound_sets members_ok member_ok all_of apart
+unfolding set_answers set_told on_sets apply_sets set_step set_ordered set_joined set_named set_moved moved move_of set_called
+    set_received set_closed
+    closed_six closing_sent whereabouts has_member member_for without those set_ready tidy_six tidy sound_sets members_ok
+    member_ok all_of apart
     everyone size unpacked packed_sets members_of set_of set_start set_cold reading recalled blocks
 shown-session = refl
 
@@ -53,8 +55,10 @@ pub shown-displaced :
     ∷ (0 ∷ 4 ∷ 1 ∷ 0 ∷ 0xFF ∷ 0xFF ∷ 0xFF ∷ 1 ∷ 3 ∷ 0 ∷ 0 ∷ 0xFF ∷ 0xFF ∷ 0 ∷ 2 ∷ 1 ∷ 1 ∷ [])
     ∷ [])
     ∷ []
-unfolding set_after set_answers set_told on_sets apply_sets set_step set_ordered set_joined set_named set_moved moved move_of set_called set_received
-    set_closed closed_six closing_sent whereabouts has_member member_for without those set_ready tidy_six tidy sound_sets members_ok member_ok all_of
+unfolding set_after set_answers set_told on_sets apply_sets set_step set_ordered set_joined set_named set_moved moved move_of
+    set_called set_received
+    set_closed closed_six closing_sent whereabouts has_member member_for without those set_ready tidy_six tidy sound_sets members_ok
+    member_ok all_of
     apart everyone size unpacked packed_sets members_of set_of set_start set_cold reading recalled blocks
 shown-displaced = refl
 
@@ -64,7 +68,8 @@ shown-displaced = refl
 -- meaning
 pub shown-unsound : map set_ready unsound_states
     ≡ true ∷ false ∷ false ∷ false ∷ false ∷ false ∷ false ∷ false ∷ false ∷ false ∷ false ∷ []
-unfolding set_ready tidy_six tidy sound_sets members_ok member_ok all_of apart everyone has_member size unpacked packed_sets members_of set_of
+unfolding set_ready tidy_six tidy sound_sets members_ok member_ok all_of apart everyone has_member size unpacked packed_sets
+    members_of set_of
 shown-unsound = refl
 
 -- RBC 5 is called and named by nothing but three timeouts: it is no member then, and was released once
@@ -72,8 +77,10 @@ shown-unsound = refl
 pub shown-waiting :
     (is_member rbc5 (set_after (set_after set_first (order5 ∷ [])) (timeout5 ∷ timeout5 ∷ timeout5 ∷ [])) ≡ false)
     × (set_releases_of rbc5 (set_after set_first (order5 ∷ [])) (timeout5 ∷ timeout5 ∷ timeout5 ∷ []) ≡ 1)
-unfolding set_waits set_silent timeouts set_after on_sets apply_sets set_step set_ordered set_joined set_named set_moved moved move_of set_called
-    set_received set_closed closed_six closing_sent whereabouts has_member member_for without those set_ready tidy_six tidy sound_sets members_ok
+unfolding set_waits set_silent timeouts set_after on_sets apply_sets set_step set_ordered set_joined set_named set_moved moved
+    move_of set_called
+    set_received set_closed closed_six closing_sent whereabouts has_member member_for without those set_ready tidy_six tidy
+    sound_sets members_ok
     member_ok all_of apart everyone size unpacked packed_sets members_of set_of set_start set_cold reading recalled
 shown-waiting =
     let b = set_after set_first (order5 ∷ []) in

@@ -281,7 +281,8 @@ with_sets r x =
     }
 
 -- and with six empty ones it is the cold start of sets
-pub start-sets : (l : Limits) (r : Started) (x : SixSets) → r ≡ cold_start l → x ≡ packed_six no_sets → with_sets r x ≡ set_start l
+pub start-sets : (l : Limits) (r : Started) (x : SixSets) → r ≡ cold_start l → x ≡ packed_six no_sets → with_sets r x
+    ≡ set_start l
 unfolding cold_start cold set_start set_cold packed_sets
 start-sets l r x is none = ap₂ with_sets is none ∙ by (limits_ok l)
   where

@@ -335,7 +335,8 @@ module _ (b : SetState) where
       ≡ set_called (unpacked b) p
   unfolding set_called
   called_is p t test =
-      ap (λ u. cond u (admitted_to (unpacked b) p (set_received (unpacked b) p)) (set_refused refusal.call_from_riu (unpacked b))) (sym test)
+      ap (λ u. cond u (admitted_to (unpacked b) p (set_received (unpacked b) p))
+      (set_refused refusal.call_from_riu (unpacked b))) (sym test)
 
   -- an event that names a member, by its move
   pub taken_is : (p : Partner) (w : SetName) (mv : Move) (t : Bool)

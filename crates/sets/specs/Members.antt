@@ -1,7 +1,8 @@
 -- Request Q-7: one set of partners "with tries beside the members", as the list of its members.
--- Defines: most_members, session_tries, no_member, is_for, has_member, member_for, without, joining, those, all_of, apart, is_no_member, members_of,
--- set_of, tidy.
-use Rattle.std.specs.Prelude.{ℕ, Bool, true, false, cond, ◌&&◌, ◌||◌, not, List, [], ◌∷◌, ◌++◌, eqb, leb, length, take, drop, replicate}
+-- Defines: most_members, session_tries, no_member, is_for, has_member, member_for, without, joining, those, all_of, apart, is_no_member,
+-- members_of, set_of, tidy.
+use Rattle.std.specs.Prelude.{ℕ, Bool, true, false, cond, ◌&&◌, ◌||◌, not, List, [], ◌∷◌, ◌++◌, eqb, leb, length, take}
+use Rattle.std.specs.Prelude.{drop, replicate}
 use Rattle.record.specs.Partners.{same_partner}
 use Rattle.record.specs.declared.partner.Partner.{Partner}
 use Rattle.place.specs.Places.{direction_number}

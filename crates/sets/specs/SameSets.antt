@@ -1,6 +1,7 @@
 -- Request Q-7: "it and the place engine give the same refusal, sets, tries, other fields and collection of actions": the two engines side
 -- by side.
--- Defines: name_of, place_passes, count_in, many, SameState, SameAnswer, gather, sets_of, phase_for, seat_of, seats_of, places_of, state_of.
+-- Defines: name_of, place_passes, count_in, many, SameState, SameAnswer, gather, sets_of, phase_for, seat_of, seats_of, places_of,
+-- state_of.
 use Rattle.std.specs.Prelude.{ℕ, ◌+◌, ◌-◌, ◌≡◌, Bool, false, List, [], ◌∷◌, ◌++◌, map, replicate}
 use Rattle.place.specs.Places.{tries, vacant, seat, on_holding}
 use Rattle.place.specs.declared.phase.Phase.{Phase}

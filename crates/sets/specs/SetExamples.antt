@@ -1,7 +1,7 @@
 -- Examples only: nobody has to believe what stands here.
 -- Histories of the engine of sets, for computed instances.
--- Defines: set_limits, set_first, rbc_record, riu_record, set_told, six_told, set_answers, one_session, mixed_sessions, member_of, in_calling,
--- in_incoming, in_outgoing, in_lost, set_holding, after_count, unsound_states, took_all, to5.
+-- Defines: set_limits, set_first, rbc_record, riu_record, set_told, six_told, set_answers, one_session, mixed_sessions, member_of,
+-- in_calling, in_incoming, in_outgoing, in_lost, set_holding, after_count, unsound_states, took_all, to5.
 use Rattle.std.specs.Prelude.{ℕ, List, [], ◌∷◌, ◌++◌}
 use Rattle.place.specs.Places.{direction_number}
 use Rattle.place.specs.declared.limits.Limits.{Limits}

@@ -1,7 +1,7 @@
 -- Cross-checks only: nobody has to believe what stands here.
 -- Request Q-7: histories of the engine of sets, and what demand 3 counts in them, from this engine's own steps.
--- Defines: set_after, set_sum, set_accepted, set_orders, set_calls, set_losses, set_actions, set_releases, members_held, is_member, set_waits,
--- set_names, set_silent, set_releases_of, set_sums.
+-- Defines: set_after, set_sum, set_accepted, set_orders, set_calls, set_losses, set_actions, set_releases, members_held, is_member,
+-- set_waits, set_names, set_silent, set_releases_of, set_sums.
 use Rattle.std.specs.Prelude.{ℕ, ◌+◌, Bool, true, false, ◌&&◌, ◌||◌, not, List, [], ◌∷◌, eqb, length}
 use Rattle.wire.specs.Refusals.{accepted}
 use Rattle.record.specs.Partners.{same_partner}

@@ -1,7 +1,8 @@
 -- Request Q-7: one step of the engine of sets, for every kind of event.
--- Defines: SetOutcome, set_refused_at, set_refused, set_done, set_noted, with_six, tried, in_sessions, shuts, goers, stayers, closed_six, sent_all,
--- closing_sent, set_closed, with_member, moved, set_recalling, set_moved, set_named, new_member, admitted_to, set_joined, set_ordered_to, set_ordered,
--- set_received, set_called, set_step.
+-- Defines: SetOutcome, set_refused_at, set_refused, set_done, set_noted, with_six, tried, in_sessions, shuts, goers, stayers, closed_six,
+-- sent_all,
+-- closing_sent, set_closed, with_member, moved, set_recalling, set_moved, set_named, new_member, admitted_to, set_joined, set_ordered_to,
+-- set_ordered, set_received, set_called, set_step.
 use Rattle.std.specs.Prelude.{ℕ, Bool, true, false, cond, ◌&&◌, not, List, [], ◌∷◌, ◌++◌, map, eqb, ltb}
 use Rattle.wire.specs.Refusals as refusal
 use Rattle.record.specs.Partners.{is_rbc, reserved}

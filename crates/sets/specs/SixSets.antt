@@ -1,7 +1,7 @@
 -- Request Q-7: the six sets, "calling, contacted, incoming, outgoing, lost, terminating"; where a partner stands among them; when a state
 -- is sound; the cold start.
--- Defines: Six, Sets, set_in, with_set, size, everyone, whereabouts, on_whereabouts, phase_in, tries_in, fits_in, may_be, member_ok, members_ok,
--- sound_sets, unpacked_six, six_in, unpacked, packed_six, packed_sets, tidy_six, set_ready, no_sets, cold_sets, set_cold,
+-- Defines: Six, Sets, set_in, with_set, size, everyone, whereabouts, on_whereabouts, phase_in, tries_in, fits_in, may_be, member_ok,
+-- members_ok, sound_sets, unpacked_six, six_in, unpacked, packed_six, packed_sets, tidy_six, set_ready, no_sets, cold_sets, set_cold,
 -- set_start.
 use Rattle.std.specs.Prelude.{ℕ, ◌+◌, Bool, true, false, cond, ◌&&◌, List, [], ◌++◌, eqb, leb, length}
 use Rattle.wire.specs.Refusals.{accepted, bad_limits}

@@ -255,7 +255,8 @@ module _ (c : Concern) (before after : List Place) (is : List ℕ) (acts : List 
     -- when each free modem is given away, the rules hold of those that go on waiting
     pub queue-after : Queued after (unserved after lined)
     queue-after =
-        let fresh = every_drop (λ i. just_ordered (place_at after i)) (free_modems after lined) lined (line-fresh c before after is step) in
+        let fresh = every_drop (λ i. just_ordered (place_at after i)) (free_modems after lined) lined
+        (line-fresh c before after is step) in
         let apart = distinct-drop (free_modems after lined) lined (line-apart c before after is step) in
         let counted = modems-count after (unserved after lined) step.still-four fresh apart in
         let all = held_after in

@@ -297,7 +297,8 @@ module _ (p : Partner) (h : Shunter) (bytes : List ℕ) (good : ready h ≡ true
           (λ i one own. place-some p before i (step.one p) own)
 
       mine : (waits_for before is p || order_of p c) ≡ true
-          → count (request_to p) (sends h c o).actions + as_bit (waits_for after (unserved after line) p) ≡ as_bit (some (holds p) after)
+          → count (request_to p) (sends h c o).actions + as_bit (waits_for after (unserved after line) p)
+          ≡ as_bit (some (holds p) after)
       mine own =
           let quiet = silent (core-silent p c before after is o.actions step sent one-after own) in
           let split = served-or-left ∙ ap as_bit (line-place p c before after is o.actions step sent one-after own) in
@@ -405,7 +406,8 @@ module _ (p : Partner) (h : Shunter) (bytes : List ℕ) where
       (λ short. refused-first good (shunt_refused refusal.no_room h) (λ e. omega arith) refl refl)
       (λ enough bad. refused-first good (shunt_refused refusal.not_sound h) (λ e. omega arith) refl refl)
       (λ enough ok stirred. refused-first good (shunt_refused place_waits h) (λ e. omega arith) refl refl)
-      (λ enough ok calm other. refused-first good (shunt_refused_at (core_step h bytes).code (core_step h bytes).standing h) other refl refl)
+      (λ enough ok calm other. refused-first good (shunt_refused_at (core_step h bytes).code (core_step h bytes).standing h)
+      other refl refl)
       (λ enough ok calm taken full. refused-first good (shunt_refused modem_missing h) (λ e. omega arith) refl refl)
       (λ enough ok calm taken free. sends-first p h bytes ok calm taken free)
 

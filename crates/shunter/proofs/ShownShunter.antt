@@ -44,7 +44,8 @@ pub shown-three : answers_of fitted three_partners
     ∷ (0 ∷ 0xFF ∷ 22 ∷ 0 ∷ 0 ∷ 0 ∷ 1 ∷ 21 ∷ 0 ∷ 0 ∷ 0 ∷ 3 ∷ 0xFF ∷ [])
     ∷ (0 ∷ 0xFF ∷ 155 ∷ 0 ∷ 0 ∷ 0 ∷ 3 ∷ 0xFF ∷ [])
     ∷ []
-unfolding answers_of shunt applying on_concern passed sends line_up kept waits_for modems_held sum_to among queue_ok every distinct rules_hold ready
+unfolding answers_of shunt applying on_concern passed sends line_up kept waits_for modems_held sum_to among queue_ok every distinct
+    rules_hold ready
     waiting queued cold_shunter cold_start cold sound places_ok some first seek reading turn step closed closing_actions recalled
     on_record blocks
 shown-three = refl
@@ -57,7 +58,8 @@ pub shown-four : answers_of (shunter_after fitted two_lost) (order_alone 4 ∷ [
     ∷ 22 ∷ 0 ∷ 0 ∷ 0 ∷ 1 ∷ 22 ∷ 0 ∷ 0 ∷ 0 ∷ 2
     ∷ 21 ∷ 0 ∷ 0 ∷ 0 ∷ 3 ∷ 21 ∷ 0 ∷ 0 ∷ 0 ∷ 4 ∷ 0xFF ∷ [])
     ∷ []
-unfolding shunter_after answers_of shunt applying on_concern passed sends line_up kept waits_for modems_held sum_to among queue_ok every distinct
+unfolding shunter_after answers_of shunt applying on_concern passed sends line_up kept waits_for modems_held sum_to among queue_ok
+    every distinct
     rules_hold ready waiting queued cold_shunter cold_start cold sound places_ok some first seek reading turn step closed closing_actions
     recalled on_record blocks
 shown-four = refl
@@ -67,7 +69,8 @@ shown-four = refl
 pub shown-left : answers_of (shunter_after fitted four_wait) (end_all ∷ [])
     ≡ (0 ∷ 0xFF ∷ 22 ∷ 0 ∷ 0 ∷ 0 ∷ 1 ∷ 22 ∷ 0 ∷ 0 ∷ 0 ∷ 2 ∷ 0xFF ∷ [])
     ∷ []
-unfolding shunter_after answers_of shunt applying on_concern passed sends line_up kept waits_for modems_held sum_to among queue_ok every distinct
+unfolding shunter_after answers_of shunt applying on_concern passed sends line_up kept waits_for modems_held sum_to among queue_ok
+    every distinct
     rules_hold ready waiting queued cold_shunter cold_start cold sound places_ok some first seek reading turn step closed closing_actions
     recalled on_record blocks
 shown-left = refl
@@ -86,7 +89,8 @@ pub shown-waits : (waits_through 3 (shunter_after fitted four_wait) (drop_rbc 1 
     × (modem_releases (shunter_after fitted four_wait) (drop_rbc 1 ∷ []) ≡ 1)
     × (1 + ahead 3 (waiting (shunter_after (shunter_after fitted four_wait) (drop_rbc 1 ∷ [])).queue) ≤ 1)
 unfolding ahead waits_through shunter_sum count shunter_after shunt applying on_concern passed sends line_up kept waits_for modems_held
-    sum_to among queue_ok every distinct rules_hold ready waiting queued cold_shunter cold_start cold sound places_ok some first seek reading turn
+    sum_to among queue_ok every distinct rules_hold ready waiting queued cold_shunter cold_start cold sound places_ok some first
+    seek reading turn
     step closed closing_actions recalled on_record blocks
 shown-waits = (refl, refl, refl, served-in-time waits-fourth 3 (drop_rbc 1 ∷ []) good-fourth refl)
 
@@ -94,7 +98,8 @@ shown-waits = (refl, refl, refl, served-in-time waits-fourth 3 (drop_rbc 1 ∷ [
 -- instance
 pub shown-served : waits_through 3 (shunter_after fitted four_wait) (drop_rbc 1 ∷ drop_rbc 2 ∷ []) ≡ false
 unfolding ahead shunter_sum count shunter_after shunt applying on_concern passed sends line_up kept waits_for modems_held
-    sum_to among queue_ok every distinct rules_hold ready waiting queued cold_shunter cold_start cold sound places_ok some first seek reading turn
+    sum_to among queue_ok every distinct rules_hold ready waiting queued cold_shunter cold_start cold sound places_ok some first
+    seek reading turn
     step closed closing_actions recalled on_record blocks
 shown-served = served-after waits-fourth 3 (drop_rbc 1 ∷ drop_rbc 2 ∷ []) good-fourth (omega arith)
 
@@ -102,7 +107,8 @@ shown-served = served-after waits-fourth 3 (drop_rbc 1 ∷ drop_rbc 2 ∷ []) go
 -- instance
 pub shown-modem : modem_seen (rbc_of 0 0 3) false fitted three_partners ≡ true
 unfolding shunter_after shunt applying on_concern passed sends line_up kept waits_for modems_held
-    sum_to among queue_ok every distinct rules_hold ready waiting queued cold_shunter cold_start cold sound places_ok some first seek reading turn
+    sum_to among queue_ok every distinct rules_hold ready waiting queued cold_shunter cold_start cold sound places_ok some first
+    seek reading turn
     step closed closing_actions recalled on_record blocks
 shown-modem = cold-modem-seen (rbc_of 0 0 3) fitted_limits three_partners
 
@@ -110,7 +116,8 @@ shown-modem = cold-modem-seen (rbc_of 0 0 3) fitted_limits three_partners
 -- instance
 pub shown-firsts : orders_to (rbc_of 0 0 3) fitted three_partners + 0 ≡ 1 + 0 + 0
 unfolding shunter_sum count shunter_after shunt applying on_concern passed sends line_up kept waits_for modems_held
-    sum_to among queue_ok every distinct rules_hold ready waiting queued cold_shunter cold_start cold sound places_ok some first seek reading turn
+    sum_to among queue_ok every distinct rules_hold ready waiting queued cold_shunter cold_start cold sound places_ok some first
+    seek reading turn
     step closed closing_actions recalled on_record blocks
 shown-firsts = firsts-once (rbc_of 0 0 3) fitted three_partners (cold-ready fitted_limits)
 
@@ -118,7 +125,8 @@ shown-firsts = firsts-once (rbc_of 0 0 3) fitted three_partners (cold-ready fitt
 -- instance
 pub shown-released : released_by (rbc_of 0 0 4) (reading (drop_rbc 4)) ≡ true
 unfolding shunter_after shunt applying on_concern passed sends line_up kept waits_for modems_held
-    sum_to among queue_ok every distinct rules_hold ready waiting queued cold_shunter cold_start cold sound places_ok some first seek reading turn
+    sum_to among queue_ok every distinct rules_hold ready waiting queued cold_shunter cold_start cold sound places_ok some first
+    seek reading turn
     step closed closing_actions recalled on_record blocks
 shown-released = released-only waits-fourth (drop_rbc 4) 3 good-fourth refl refl
 
@@ -126,7 +134,8 @@ shown-released = released-only waits-fourth (drop_rbc 4) 3 good-fourth refl refl
 -- instance
 pub shown-out : went_out fitted three_partners ≤ 5
 unfolding summed reached shunter_sum shunter_after shunt applying on_concern passed sends line_up kept waits_for modems_held
-    sum_to among queue_ok every distinct rules_hold ready waiting queued cold_shunter cold_start cold sound places_ok some first seek reading turn
+    sum_to among queue_ok every distinct rules_hold ready waiting queued cold_shunter cold_start cold sound places_ok some first
+    seek reading turn
     step closed closing_actions recalled on_record blocks
 shown-out = cold-went-out fitted_limits three_partners
 
@@ -137,7 +146,8 @@ pub shown-silent : holds_place (rbc_of 0 0 1)
     (timeout_rbc 3 ∷ timeout_rbc 1 ∷ timeout_rbc 1 ∷ timeout_rbc 1 ∷ [])).state.places
     ≡ false
 unfolding silent timeouts reached shunter_after shunt applying on_concern passed sends line_up kept waits_for modems_held
-    sum_to among queue_ok every distinct rules_hold ready waiting queued cold_shunter cold_start cold sound places_ok some first seek reading turn
+    sum_to among queue_ok every distinct rules_hold ready waiting queued cold_shunter cold_start cold sound places_ok some first
+    seek reading turn
     step closed closing_actions recalled on_record blocks
 shown-silent =
     shunter-waiting (shunter_after fitted (order_rbc 1 ∷ order_rbc 2 ∷ order_rbc 3 ∷ []))

@@ -1,7 +1,8 @@
 -- Request Q-10, "two modems for four places": the queue, who has a modem, and when the state of a shunter is sound.
--- Defines: modem_count, no_place, somebody, waiting, queued, in_order, among, every, distinct, place_at, outgoing, first_tried, just_ordered,
--- has_modem, sum_to, modems_held, queue_ok, rules_hold, ready, unqueued, cold_shunter.
-use Rattle.std.specs.Prelude.{ℕ, zero, suc, ◌+◌, Bool, true, false, cond, ◌&&◌, ◌||◌, not, List, [], ◌∷◌, ◌++◌, eqb, leb, get_or}
+-- Defines: modem_count, no_place, somebody, waiting, queued, in_order, among, every, distinct, place_at, outgoing, first_tried,
+-- just_ordered, has_modem, sum_to, modems_held, queue_ok, rules_hold, ready, unqueued, cold_shunter.
+use Rattle.std.specs.Prelude.{ℕ, zero, suc, ◌+◌, Bool, true, false, cond, ◌&&◌, ◌||◌, not, List, [], ◌∷◌, ◌++◌, eqb}
+use Rattle.std.specs.Prelude.{leb, get_or}
 use Rattle.place.specs.Places.{vacant, on_holding, is_free}
 use Rattle.place.specs.Table.{first_try}
 use Rattle.place.specs.declared.limits.Limits.{Limits}

@@ -1,6 +1,7 @@
 -- Only private contracts use what stands here: an accepted step as the code carries it out.
 -- Defines: outward, still_held, first_request, joiner_of, line_after, sent_with, line_for, sent_own, Fits, Good, tallying.
-use Rattle.std.specs.Prelude.{ℕ, ◌+◌, ◌-◌, ◌≤◌, ◌≡◌, Bool, false, cond, ◌&&◌, not, List, ◌++◌, eqb, length, take}
+use Rattle.std.specs.Prelude.{ℕ, ◌+◌, ◌-◌, ◌≤◌, ◌≡◌, Bool, false, cond, ◌&&◌, not, List, ◌++◌, eqb, length}
+use Rattle.std.specs.Prelude.{take}
 use Rattle.wire.specs.Refusals.{accepted}
 use Rattle.record.specs.declared.partner.Partner.{Partner}
 use Rattle.place.specs.Places.{is_free, partner_of}

@@ -2,7 +2,8 @@
 -- Sums over histories of the shunter: orders and first 21s of a partner, what is sent and what goes out, releases.
 -- Defines: order_of, orders_to, firsts_to, left_waiting, shunter_sent, refusals, went_out, releasing, released_by, rows_in, cold_reached,
 -- request_to, release_to, call_by, accepts, sent_some, modem_after, modem_seen, partner_waits, partner_modem.
-use Rattle.std.specs.Prelude.{ℕ, zero, suc, Bool, true, false, cond, ◌&&◌, ◌||◌, not, List, [], ◌∷◌, ◌++◌, eqb, length, take, drop, leb}
+use Rattle.std.specs.Prelude.{ℕ, zero, suc, Bool, true, false, cond, ◌&&◌, ◌||◌, not, List, [], ◌∷◌, ◌++◌, eqb, length}
+use Rattle.std.specs.Prelude.{take, drop, leb}
 use Rattle.wire.specs.Refusals.{accepted}
 use Rattle.record.specs.Partners.{same_partner}
 use Rattle.record.specs.Records.{mission_ended}

@@ -1,8 +1,10 @@
 -- Request Q-10: one step of the shunter, over what the box's step gives.
--- Defines: Shunting, modem_missing, place_waits, shunt_refused_at, shunt_refused, kept, waits_for, own_request, held_back, newcomers, line_up,
--- free_modems, served, unserved, first_requests, goes_out, line_of, sends, is_call_of, all_held, call_too_many, passed, up_lost_timeout, wakes,
--- stirs_waiting, on_concern, concern_in, core_step, applying, shunt, shunted, sent_buffer, sent_of.
-use Rattle.std.specs.Prelude.{ℕ, ◌-◌, Bool, true, false, cond, ◌&&◌, ◌||◌, not, List, [], ◌∷◌, ◌++◌, map, eqb, leb, length, take, drop}
+-- Defines: Shunting, modem_missing, place_waits, shunt_refused_at, shunt_refused, kept, waits_for, own_request, held_back, newcomers,
+-- line_up,
+-- free_modems, served, unserved, first_requests, goes_out, line_of, sends, is_call_of, all_held, call_too_many, passed, up_lost_timeout,
+-- wakes, stirs_waiting, on_concern, concern_in, core_step, applying, shunt, shunted, sent_buffer, sent_of.
+use Rattle.std.specs.Prelude.{ℕ, ◌-◌, Bool, true, false, cond, ◌&&◌, ◌||◌, not, List, [], ◌∷◌, ◌++◌, map, eqb, leb}
+use Rattle.std.specs.Prelude.{length, take, drop}
 use Rattle.wire.specs.Refusals as refusal
 use Rattle.record.specs.Partners.{same_partner}
 use Rattle.record.specs.Records.{reading}

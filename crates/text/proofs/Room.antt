@@ -33,7 +33,8 @@ actions-few (a ∷ acts) =
     let rest = actions-few acts in
     simp length-append (omega arith)
 
-pub line-room : (number kind code : ℕ) (acts : List Action) → length acts ≤ 4 → length (line_text number kind code acts) ≤ text_room
+pub line-room : (number kind code : ℕ) (acts : List Action) → length acts ≤ 4
+    → length (line_text number kind code acts) ≤ text_room
 unfolding line_text
 line-room number kind code acts most =
     let numbers = few number in

@@ -1,5 +1,6 @@
 -- Document 01, "Run over a log", the part on the program `sheet`: the whole text of a sheet, for any input.
--- Defines: header_text, too_long_text, most_input, sheet_limits, sheet_budget, course_text, sheet_text, sheet_room, sheet_count, sheet_placed.
+-- Defines: header_text, too_long_text, most_input, sheet_limits, sheet_budget, course_text, sheet_text, sheet_room, sheet_count,
+-- sheet_placed.
 use Rattle.std.specs.Prelude.{ℕ, ◌+◌, cond, List, [], ◌∷◌, ◌++◌, leb, length}
 use Rattle.wire.specs.Bytes.{byte}
 use Rattle.place.specs.Places.{fleet_tries}
@@ -38,7 +39,8 @@ course_text read (applies bytes o rest) = line_text (read + 1) (byte bytes 0) o.
 -- "reads standard input (at most 4,096 bytes; more prints only `too long`), cold starts .., runs .., and prints .."
 unfoldable pub sheet_text : List ℕ → List ℕ
 sheet_text input =
-    cond (leb (length input) most_input) (header_text ++ course_text 0 (course sheet_budget (cold_start sheet_limits).state input)) too_long_text
+    cond (leb (length input) most_input) (header_text ++ course_text 0 (course sheet_budget (cold_start sheet_limits).state input))
+    too_long_text
 
 -- room for every sheet: the header's 22 bytes, and 192 bytes for each of 4,096 lines and for the last one
 abbrev pub sheet_room : ℕ

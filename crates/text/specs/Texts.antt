@@ -1,7 +1,8 @@
 -- Document 01, "Run over a log", the part on the program `sheet`: the text of a number, of a line and of the end.
 -- Defines: newline, space, slash, digit_zero, colon, digits, most_digits, decimal, partner_number, action_text, line_text, end_text,
 -- placed.
-use Rattle.std.specs.Prelude.{ℕ, zero, suc, ◌+◌, ◌*◌, ◌/◌, ◌%◌, cond, List, [], ◌∷◌, ◌++◌, ltb, leb, length, drop}
+use Rattle.std.specs.Prelude.{ℕ, zero, suc, ◌+◌, ◌*◌, ◌/◌, ◌%◌, cond, List, [], ◌∷◌, ◌++◌, ltb, leb, length}
+use Rattle.std.specs.Prelude.{drop}
 use Rattle.wire.specs.Blocks.{blocks}
 use Rattle.record.specs.declared.partner.Partner.{Partner}
 use Rattle.unit.specs.declared.answer.Action.{Action}

@@ -62,7 +62,8 @@ module _ (which : Closing) (ps : List Place) (i : ℕ) (below : i < length ps) w
       ap (λ l. set l i (place_after p (closed_by which p))) at-hand
       ∙ in-lists.set_at (closed which (take i ps)) p (drop (suc i) ps) (place_after p (closed_by which p)) i closed-length
       ∙ sym (append_assoc (closed which (take i ps)) (place_after p (closed_by which p) ∷ []) (drop (suc i) ps))
-      ∙ ap₂ ◌++◌ (sym (ap (closed which) next ∙ closed-append which (take i ps) (p ∷ []))) (ap (λ k. drop k ps) (sym (add-one i)))
+      ∙ ap₂ ◌++◌ (sym (ap (closed which) next ∙ closed-append which (take i ps) (p ∷ [])))
+      (ap (λ k. drop k ps) (sym (add-one i)))
 
   -- one turn of the code's loop: the place, and its number
   module _ (places : List Place) (so_far : places ≡ closed which (take i ps) ++ drop i ps) (t : Turned)

@@ -1,6 +1,7 @@
 -- Soundness as facts. That of the places is an account: no place is bad, and no partner weighs more than one.
 -- Defines: bad, PlacesFacts, Facts.
--- Proves: places-facts, facts-places, limits-tries, sound-facts, facts-sound, set-facts, take-facts, closed-here, closed_by-facts, place_at.
+-- Proves: places-facts, facts-places, limits-tries, sound-facts, facts-sound, set-facts, take-facts, closed-here, closed_by-facts,
+-- place_at.
 use mathlib.Core.Path.{◌≡◌, refl, ap, ◌∙◌}
 use mathlib.Core.Bool.{Bool, true, false, cond, ◌&&◌}
 use mathlib.Core.List.{List, [], ◌∷◌}

@@ -50,7 +50,8 @@ closing-few Open = omega arith
 closing-few (Lost t) = omega arith
 closing-few (Ending t) = omega arith
 
-pub closed_by-few : (which : Closing) (k : Holding) → length (actions_in k (holding_closed_by which k)) ≤ as_bit (not (is_free_holding k))
+pub closed_by-few : (which : Closing) (k : Holding)
+    → length (actions_in k (holding_closed_by which k)) ≤ as_bit (not (is_free_holding k))
 closed_by-few which Free = omega arith
 closed_by-few which (Held d ph p) =
     cond-holds (λ t. length (map (act p) (numbers t)) ≤ 1) (closes which ph p) (closing ph) Stays

@@ -112,7 +112,8 @@ there p ps = At (first (holds p) ps) (held_phase (get_or ps (first (holds p) ps)
 -- the search by these numbers
 seek-first : (p : Partner) (ps : List Place)
     → seek p ps
-    ≡ cond (ltb (first (holds p) ps) (length ps)) (there p ps) (cond (ltb (first is_free ps) (length ps)) (Vacant (first is_free ps)) Full)
+    ≡ cond (ltb (first (holds p) ps) (length ps)) (there p ps)
+    (cond (ltb (first is_free ps) (length ps)) (Vacant (first is_free ps)) Full)
 unfolding seek
 seek-first p ps =
     ap₂ (λ a b. cond a (there p ps) (cond b (Vacant (first is_free ps)) Full)) (some_first (holds p) ps) (some_first is_free ps)

@@ -66,7 +66,8 @@ free-closed : (which : Closing) (ps : List Place) (i : ℕ)
     → is_free (get_or (closed which ps) i vacant) ≡ true
 free-closed which ps i h = rw (closed_at which ps i) (by (get_or ps i vacant).holding h)
   where
-    by : (k : Holding) → is_free_holding k ≡ true → is_free (place_after (record { holding = k }) (holding_closed_by which k)) ≡ true
+    by : (k : Holding) → is_free_holding k ≡ true
+        → is_free (place_after (record { holding = k }) (holding_closed_by which k)) ≡ true
     by Free h = refl
     by (Held d ph p) h = true-false false h refl
 

@@ -12,7 +12,8 @@ use Rattle.unit.specs.declared.answer.Action.{Action}
 use Rattle.unit.specs.declared.answer.Actions.{Actions}
 use Rattle.unit.specs.declared.answer.Stepped.{Stepped}
 use Rattle.unit.specs.declared.change.Change.{Change}
-use Rattle.std.specs.Prelude.{ℕ, ◌+◌, Bool, true, false, cond, ◌≡◌, List, [], ◌∷◌, ◌++◌, map, eqb, ltb, length, set, get_or}
+use Rattle.std.specs.Prelude.{ℕ, ◌+◌, Bool, true, false, cond, ◌≡◌, List, [], ◌∷◌, ◌++◌, map, eqb, ltb, length, set}
+use Rattle.std.specs.Prelude.{get_or}
 use Rattle.wire.specs.Refusals.{accepted}
 use Rattle.unit.specs.Forms.{most_actions, no_action}
 use Rattle.unit.specs.OnRecords.{written}

@@ -94,14 +94,16 @@ abbrev ◌gives◌leaves◌ : List ℕ → ℕ → State → Line
 
 infix 4 ◌says◌at◌phase◌leaves◌
 abbrev ◌says◌at◌phase◌leaves◌ : List ℕ → ℕ → ℕ → ℕ → State → Line
-◌says◌at◌phase◌leaves◌ bytes code i k state = record { bytes = bytes; gives = refused_at code (record { place = i; phase = k }) state }
+◌says◌at◌phase◌leaves◌ bytes code i k state
+    = record { bytes = bytes; gives = refused_at code (record { place = i; phase = k }) state }
 
 -- "P1 the five records above, states included."
 p1 : List Line
 p1 =
     ((5 ∷ 0 ∷ 0 ∷ 0 ∷ 5 ∷ 1 ∷ 1 ∷ []) sends (21 to rbc_no 5 ∷ []) leaves idle (out (Connecting 1) (rbc_no 5) ∷ []))
     ∷ ((8 ∷ 0 ∷ 0 ∷ 0 ∷ 5 ∷ []) sends (155 to rbc_no 5 ∷ []) leaves idle (out (Contacting 1) (rbc_no 5) ∷ []))
-    ∷ ((11 ∷ 0 ∷ 0 ∷ 0 ∷ 5 ∷ 32 ∷ 17 ∷ []) sends (159 to rbc_no 5 ∷ []) leaves idle (out Open (rbc_no 5) ∷ []) knowing 5)
+    ∷ ((11 ∷ 0 ∷ 0 ∷ 0 ∷ 5 ∷ 32 ∷ 17 ∷ []) sends (159 to rbc_no 5 ∷ []) leaves idle
+    (out Open (rbc_no 5) ∷ []) knowing 5)
     ∷ ((6 ∷ 0 ∷ 0 ∷ 0 ∷ 5 ∷ []) sends (156 to rbc_no 5 ∷ []) leaves idle (out (Ending 1) (rbc_no 5) ∷ []) knowing 5)
     ∷ ((11 ∷ 0 ∷ 0 ∷ 0 ∷ 5 ∷ 39 ∷ 0 ∷ []) sends (22 to rbc_no 5 ∷ []) leaves idle [] knowing 5)
     ∷ []
@@ -130,7 +132,8 @@ p4 =
     ((5 ∷ 0 ∷ 0 ∷ 0 ∷ 5 ∷ 1 ∷ 1 ∷ []) sends (21 to rbc_no 5 ∷ []) leaves idle (out (Connecting 1) (rbc_no 5) ∷ []))
     ∷ ((8 ∷ 0 ∷ 0 ∷ 0 ∷ 5 ∷ []) sends (155 to rbc_no 5 ∷ []) leaves idle (out (Contacting 1) (rbc_no 5) ∷ []))
     ∷ ((11 ∷ 0 ∷ 0 ∷ 0 ∷ 5 ∷ 32 ∷ 128 ∷ []) gives 3 leaves idle (out (Contacting 1) (rbc_no 5) ∷ []))
-    ∷ ((11 ∷ 0 ∷ 0 ∷ 0 ∷ 5 ∷ 32 ∷ 47 ∷ []) sends (159 to rbc_no 5 ∷ []) leaves idle (out Open (rbc_no 5) ∷ []) knowing 5)
+    ∷ ((11 ∷ 0 ∷ 0 ∷ 0 ∷ 5 ∷ 32 ∷ 47 ∷ []) sends (159 to rbc_no 5 ∷ []) leaves idle
+    (out Open (rbc_no 5) ∷ []) knowing 5)
     ∷ []
 
 -- the four calls of P5 taken
@@ -198,7 +201,8 @@ p10 =
     ∷ ((8 ∷ 0 ∷ 0 ∷ 0 ∷ 5 ∷ []) sends (155 to rbc_no 5 ∷ []) leaves idle (out (Contacting 1) (rbc_no 5) ∷ []))
     ∷ ((10 ∷ 0 ∷ 0 ∷ 0 ∷ 5 ∷ []) sends (155 to rbc_no 5 ∷ []) leaves idle (out (Contacting 2) (rbc_no 5) ∷ []))
     ∷ ((10 ∷ 0 ∷ 0 ∷ 0 ∷ 5 ∷ []) sends (155 to rbc_no 5 ∷ []) leaves idle (out (Contacting 3) (rbc_no 5) ∷ []))
-    ∷ ((11 ∷ 0 ∷ 0 ∷ 0 ∷ 5 ∷ 32 ∷ 17 ∷ []) sends (159 to rbc_no 5 ∷ []) leaves idle (out Open (rbc_no 5) ∷ []) knowing 5)
+    ∷ ((11 ∷ 0 ∷ 0 ∷ 0 ∷ 5 ∷ 32 ∷ 17 ∷ []) sends (159 to rbc_no 5 ∷ []) leaves idle
+    (out Open (rbc_no 5) ∷ []) knowing 5)
     ∷ ((6 ∷ 0 ∷ 0 ∷ 0 ∷ 5 ∷ []) sends (156 to rbc_no 5 ∷ []) leaves idle (out (Ending 1) (rbc_no 5) ∷ []) knowing 5)
     ∷ ((10 ∷ 0 ∷ 0 ∷ 0 ∷ 5 ∷ []) sends (156 to rbc_no 5 ∷ []) leaves idle (out (Ending 2) (rbc_no 5) ∷ []) knowing 5)
     ∷ ((10 ∷ 0 ∷ 0 ∷ 0 ∷ 5 ∷ []) sends (156 to rbc_no 5 ∷ []) leaves idle (out (Ending 3) (rbc_no 5) ∷ []) knowing 5)

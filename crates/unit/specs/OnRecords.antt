@@ -36,7 +36,8 @@ on_record s bytes room = first_that_applies (λ r. refused r s) ((leb action_roo
 
 -- the same where it was asked before whether the state is sound: of a sound state it is `on_record` (`unchecked-sound`)
 unfoldable pub on_record_unchecked : State → List ℕ → ℕ → Outcome
-on_record_unchecked s bytes room = first_that_applies (λ r. refused r s) ((leb action_room room, no_room) ∷ []) (on_reading s (reading bytes))
+on_record_unchecked s bytes room = first_that_applies (λ r. refused r s) ((leb action_room room, no_room) ∷ [])
+    (on_reading s (reading bytes))
 
 -- the outcomes of a history, "a row of event records, each given 20 bytes for its actions"
 unfoldable pub trace : State → List (List ℕ) → List Outcome

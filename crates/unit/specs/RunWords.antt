@@ -1,7 +1,8 @@
 -- Cross-checks only: nobody has to believe what stands here.
 -- Further words of laws on a run: a run taken up where another came to, and the numbers that its steps may have.
 -- Defines: taken_up, run_code, all_codes, steps_of, steps, StopsBy.
-use Rattle.std.specs.Prelude.{ℕ, Bool, true, ◌&&◌, ◌||◌, List, [], ◌∷◌, eqb, leb, drop, ◌<◌, ◌≡◌, ◌⊎◌, false, length}
+use Rattle.std.specs.Prelude.{ℕ, Bool, true, ◌&&◌, ◌||◌, List, [], ◌∷◌, eqb, leb, drop, ◌<◌, ◌≡◌, ◌⊎◌}
+use Rattle.std.specs.Prelude.{false, length}
 use Rattle.wire.specs.Refusals.{accepted, out_of_range, call_from_riu, none_known}
 use Rattle.unit.specs.Steps.{Outcome}
 use Rattle.unit.specs.Runs.{run}

@@ -1,12 +1,14 @@
 -- Document 01, "What the box remembers", with what requests Q-2 and Q-3 add to it: soundness of a state, and the cold starts.
--- Defines: place_count, some, first, seek, nowhere, standing, highest_x, limits_ok, train_ok, marks_ok, absent_from, places_ok, sound, no_marks,
--- cold, no_limits, cold_start, one_to_two, default_start.
-use Rattle.std.specs.Prelude.{ℕ, suc, Bool, true, false, cond, ◌&&◌, not, ◌||◌, List, [], ◌∷◌, eqb, leb, length, get_or, replicate}
+-- Defines: place_count, some, first, seek, nowhere, standing, highest_x, limits_ok, train_ok, marks_ok, absent_from, places_ok, sound,
+-- no_marks, cold, no_limits, cold_start, one_to_two, default_start.
+use Rattle.std.specs.Prelude.{ℕ, suc, Bool, true, false, cond, ◌&&◌, not, ◌||◌, List, [], ◌∷◌, eqb, leb, length, get_or}
+use Rattle.std.specs.Prelude.{replicate}
 use Rattle.wire.specs.Orders.{first_that_applies}
 use Rattle.record.specs.Records.{highest_level, mission_ended, mission_under_way}
 use Rattle.wire.specs.Refusals.{accepted, bad_limits}
 use Rattle.record.specs.declared.partner.Partner.{Partner}
-use Rattle.place.specs.Places.{phase_number, most_tries, default_tries, fleet_tries, vacant, is_free, held_phase, holds, place_ok, on_holding}
+use Rattle.place.specs.Places.{phase_number, most_tries, default_tries, fleet_tries, vacant, is_free, held_phase, holds, place_ok}
+use Rattle.place.specs.Places.{on_holding}
 use Rattle.place.specs.declared.place.Holding.{Holding}
 use Rattle.place.specs.declared.place.Place.{Place}
 use Rattle.place.specs.declared.limits.Limits.{Limits}

@@ -1,7 +1,8 @@
 -- Document 01, "Rules of one step", with the meant partner of request Q-2: one step on values, for every kind of event.
--- Defines: Outcome, refused_at, refused, done, with_train, with_marks, with_places, recalling, act, mark_manual, with_level, mark_mode, mark_hole,
--- hole_taken, at_hole, actions_in, closed, closing_actions, close_places, with_mission, at_mission, radio_level, in_force, spend, displaced,
--- taken_in, ordered_at, refused_for, ordered, set_at, called_at, called, turned_at, named, step.
+-- Defines: Outcome, refused_at, refused, done, with_train, with_marks, with_places, recalling, act, mark_manual, with_level, mark_mode,
+-- mark_hole,
+-- hole_taken, at_hole, actions_in, closed, closing_actions, close_places, with_mission, at_mission, radio_level, in_force, spend,
+-- displaced, taken_in, ordered_at, refused_for, ordered, set_at, called_at, called, turned_at, named, step.
 use Rattle.std.specs.Prelude.{ℕ, Bool, true, false, cond, ◌&&◌, ◌||◌, not, List, [], ◌∷◌, ◌++◌, map, eqb, get_or, set}
 use Rattle.record.specs.Partners.{is_rbc, reserved}
 use Rattle.record.specs.Records.{mission_ended, mission_starting}

@@ -4,6 +4,10 @@ ghost use Rattle.std.specs.Prelude.{◌≡◌, length};
 use crate::part::short_at;
 use crate::tally::Tally;
 use crate::vector::{group_of, holds};
+use std::io;
+use std::io::Read;
+use streams::files::open_read;
+use streams::{fail, read_full};
 
 // The room for a vector.
 const LONGEST: usize = 8192;
@@ -16,23 +20,28 @@ struct Progress {
 }
 
 // The vector at hand is cut off: it fails, and nothing can be read after it.
-fn cut_off(tally: Tally) -> Progress {
-    Progress {
-        tally: tally.add(0, false),
+fn cut_off<P: Print>(out: &P, tally: Tally) -> io::Result<Progress> {
+    Ok(Progress {
+        tally: tally.add(out, 0, false)?,
         more: false,
-    }
+    })
 }
 
 // Reads a vector that fills this room, and judges it.
-fn judge(fd: i32, tally: Tally, body: &mut [u8]) -> Progress {
-    let got = io::read_full(fd, body);
+fn judge<P: Print, F: Read>(
+    out: &P,
+    file: &mut F,
+    tally: Tally,
+    body: &mut [u8],
+) -> io::Result<Progress> {
+    let got = read_full(file, body)?;
     if got < body.len() {
-        return cut_off(tally);
+        return cut_off(out, tally);
     }
-    Progress {
-        tally: tally.add(group_of(body), holds(body)),
+    Ok(Progress {
+        tally: tally.add(out, group_of(body), holds(body))?,
         more: true,
-    }
+    })
 }
 
 // Room for the longest vector. The `ensures` gives only the length.
@@ -43,48 +52,46 @@ fn longest_vector() -> [u8; 8192]
 }
 
 // Reads and judges the next vector, if there is one.
-fn next(fd: i32, tally: Tally) -> Progress {
+fn next<P: Print, F: Read>(out: &P, file: &mut F, tally: Tally) -> io::Result<Progress> {
     let mut head = [0u8; 2];
-    let got = io::read_full(fd, &mut head);
+    let got = read_full(file, &mut head)?;
     if got == 0 {
-        return Progress { tally, more: false };
+        return Ok(Progress { tally, more: false });
     }
     if got == 1 {
-        return cut_off(tally);
+        return cut_off(out, tally);
     }
     let length = short_at(&head, 0);
     if length > LONGEST {
-        return cut_off(tally);
+        return cut_off(out, tally);
     }
     let mut body = longest_vector();
-    judge(fd, tally, &mut body[0..length])
+    judge(out, file, tally, &mut body[0..length])
 }
 
 // A proved loop has to end, and nothing says that a file does: the turns are counted down from a number that no run uses up.
-fn read_all(fd: i32) -> Tally {
+fn read_all<P: Print, F: Read>(out: &P, file: &mut F) -> io::Result<Tally> {
     let mut tally = Tally::none();
     let mut turns = u64::MAX;
     loop {
         if turns == 0 {
-            break tally;
+            break;
         }
-        let progress = next(fd, tally);
+        let progress = next(out, file, tally)?;
         tally = progress.tally;
         if progress.more {
             turns -= 1;
         } else {
-            break tally;
+            break;
         }
     }
+    Ok(tally)
 }
 
-// Judges all vectors of a file and writes the report to standard output.
-pub fn judge_file(name: &[u8]) {
-    let fd = os::open_read(name);
-    if fd < 0 {
-        os::fail(name);
-        return;
+// Judges all vectors of a file and writes the report to standard output; that the file cannot be opened is told on standard error.
+pub fn judge_file(rt: &HostRuntime, name: &[u8]) -> io::Result<()> {
+    match open_read(rt, name) {
+        Ok(mut file) => read_all(rt, &mut file)?.write(rt),
+        Err(error) => fail(&rt.stderr(), rt.alloc(), name, error),
     }
-    read_all(fd).write();
-    libc::close(fd);
 }

@@ -2,7 +2,7 @@
 ghost use Rattle.std.specs.Prelude.{◌<◌};
 
 use crate::part::wide;
-use libc::STDOUT_FILENO;
+use std::io;
 
 // The groups, and a place for vectors of no group.
 const ROWS: usize = 14;
@@ -30,41 +30,33 @@ fn row_of(group: u8) -> usize
     if row < ROWS { row } else { 0 }
 }
 
-fn name_failure(vector: u64, group: u8) {
-    io::write_all(STDOUT_FILENO, b"failed vector ");
-    io::print_decimal(STDOUT_FILENO, vector);
-    io::write_all(STDOUT_FILENO, b" group ");
-    io::print_decimal(STDOUT_FILENO, group as u64);
-    io::write_all(STDOUT_FILENO, b"\n");
+fn name_failure<P: Print>(out: &P, vector: u64, group: u8) -> io::Result<()> {
+    println!(out; "failed vector {vector} group {group}")
 }
 
-fn write_name(row: usize) -> bool {
+fn name_of(row: usize) -> &'static str {
     match row {
-        0 => io::write_all(STDOUT_FILENO, b"ungrouped"),
-        1 => io::write_all(STDOUT_FILENO, b"cells"),
-        2 => io::write_all(STDOUT_FILENO, b"refusals"),
-        3 => io::write_all(STDOUT_FILENO, b"fields"),
-        4 => io::write_all(STDOUT_FILENO, b"orders"),
-        5 => io::write_all(STDOUT_FILENO, b"unsound"),
-        6 => io::write_all(STDOUT_FILENO, b"images"),
-        7 => io::write_all(STDOUT_FILENO, b"buffers"),
-        8 => io::write_all(STDOUT_FILENO, b"runs"),
-        9 => io::write_all(STDOUT_FILENO, b"histories"),
-        10 => io::write_all(STDOUT_FILENO, b"tries"),
-        11 => io::write_all(STDOUT_FILENO, b"last"),
-        12 => io::write_all(STDOUT_FILENO, b"kinds"),
-        13 => io::write_all(STDOUT_FILENO, b"rescues"),
-        _ => io::write_all(STDOUT_FILENO, b"all"),
+        0 => "ungrouped",
+        1 => "cells",
+        2 => "refusals",
+        3 => "fields",
+        4 => "orders",
+        5 => "unsound",
+        6 => "images",
+        7 => "buffers",
+        8 => "runs",
+        9 => "histories",
+        10 => "tries",
+        11 => "last",
+        12 => "kinds",
+        13 => "rescues",
+        _ => "all",
     }
 }
 
-fn write_line(row: usize, judged: u64, failed: u64) {
-    write_name(row);
-    io::write_all(STDOUT_FILENO, b" ");
-    io::print_decimal(STDOUT_FILENO, judged);
-    io::write_all(STDOUT_FILENO, b" failed ");
-    io::print_decimal(STDOUT_FILENO, failed);
-    io::write_all(STDOUT_FILENO, b"\n");
+fn write_line<P: Print>(out: &P, row: usize, judged: u64, failed: u64) -> io::Result<()> {
+    let name = name_of(row);
+    println!(out; "{name} {judged} failed {failed}")
 }
 
 impl Tally {
@@ -86,40 +78,41 @@ impl Tally {
         next
     }
 
-    fn fail(self, group: u8) -> Tally {
+    fn fail<P: Print>(self, out: &P, group: u8) -> io::Result<Tally> {
         let row = row_of(group);
         let mut next = self.pass(group);
         next.failed[row] = more(self.failed[row]);
         next.all_failed = more(self.all_failed);
         if self.all_failed < MOST_NAMED {
-            name_failure(next.all, group);
+            name_failure(out, next.all, group)?;
         }
-        next
+        Ok(next)
     }
 
     // One vector more; a failure is named at once, unless a thousand are.
-    pub(crate) fn add(self, group: u8, holds: bool) -> Tally {
+    pub(crate) fn add<P: Print>(self, out: &P, group: u8, holds: bool) -> io::Result<Tally> {
         if holds {
-            self.pass(group)
+            Ok(self.pass(group))
         } else {
-            self.fail(group)
+            self.fail(out, group)
         }
     }
 
-    fn write_ungrouped(self) {
+    fn write_ungrouped<P: Print>(self, out: &P) -> io::Result<()> {
         if self.judged[0] > 0 {
-            write_line(0, self.judged[0], self.failed[0]);
+            return write_line(out, 0, self.judged[0], self.failed[0]);
         }
+        Ok(())
     }
 
     // Writes a line for each group, one for the vectors of no group where there are any, and the sum.
-    pub(crate) fn write(self) {
+    pub(crate) fn write<P: Print>(self, out: &P) -> io::Result<()> {
         let mut row = 1;
         while row < ROWS {
-            write_line(row, self.judged[row], self.failed[row]);
+            write_line(out, row, self.judged[row], self.failed[row])?;
             row += 1;
         }
-        self.write_ungrouped();
-        write_line(ROWS, self.all, self.all_failed);
+        self.write_ungrouped(out)?;
+        write_line(out, ROWS, self.all, self.all_failed)
     }
 }

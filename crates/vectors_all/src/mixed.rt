@@ -1,11 +1,11 @@
 // The image of a mixed state, to be held to bytes that were written by hand.
 use image::read::read_image;
 use image::write::write_a1;
-use libc::STDOUT_FILENO;
 use place::limits::Limits;
 use place::phase::Phase;
 use place::place::{Direction, Place};
 use record::partner::Partner;
+use std::io;
 use unit::last::Last;
 use unit::state::{Marks, State, Train};
 use wire::byte::byte_at;
@@ -49,26 +49,26 @@ fn mixed() -> State {
     }
 }
 
-fn print_byte(b: u8) {
-    io::print_hex(STDOUT_FILENO, b as u64, 2);
-    io::write_all(STDOUT_FILENO, b" ");
+fn print_byte<P: Print>(out: &P, b: u8) -> io::Result<()> {
+    print!(out; "{b:02x} ")
 }
 
-fn print_image(image: &[u8]) {
+fn print_image<P: Print>(out: &P, image: &[u8]) -> io::Result<()> {
     let mut i = 0;
     while i < 37 {
-        print_byte(byte_at(image, i));
+        print_byte(out, byte_at(image, i))?;
         i += 1;
     }
+    Ok(())
 }
 
 // Prints the image of a mixed state in hex, and the numbers that writing and reading it answer.
-pub(crate) fn image_of_mixed() {
+pub(crate) fn image_of_mixed<P: Print>(out: &P) -> io::Result<()> {
     let mut buffer = [0u8; 37];
     let stored = write_a1(mixed(), &mut buffer);
-    print_image(&buffer);
+    print_image(out, &buffer)?;
     let again = read_image(&buffer);
-    print_byte(stored.code);
-    print_byte(again.code);
-    io::write_all(STDOUT_FILENO, b"\n");
+    print_byte(out, stored.code)?;
+    print_byte(out, again.code)?;
+    println!(out)
 }

@@ -1,7 +1,7 @@
 -- Document 01, "Numbers of refusal": the numbers of the core, each with its one name; 14 stands in `onsight`, 17 and 18 in `shunter`, 19 in
 -- `marks`.
--- Defines: accepted, wrong_length, unknown_kind, out_of_range, not_in_force, has_place, has_none, not_taken, all_taken, call_from_riu, no_room,
--- not_sound, log_too_long, bad_limits, none_known, not_in_a1.
+-- Defines: accepted, wrong_length, unknown_kind, out_of_range, not_in_force, has_place, has_none, not_taken, all_taken, call_from_riu,
+-- no_room, not_sound, log_too_long, bad_limits, none_known, not_in_a1.
 use Rattle.std.specs.Prelude.{ℕ}
 
 -- what an answer carries where nothing was refused

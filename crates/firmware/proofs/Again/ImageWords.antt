@@ -58,7 +58,8 @@ ascends-means from ns = ((λ h. (first from ns h, next from ns h)), (λ h. whole
     first from [] h below = absurd (omega arith)
     first from (n ∷ rest) h below = leb-true from n (and_left (leb from n) (ascends (suc n) rest) h)
 
-    next : (from : ℕ) (ns : List ℕ) → ascends from ns ≡ true → (i : ℕ) → suc i < length ns → get_or ns i 0 < get_or ns (suc i) 0
+    next : (from : ℕ) (ns : List ℕ) → ascends from ns ≡ true → (i : ℕ) → suc i < length ns
+        → get_or ns i 0 < get_or ns (suc i) 0
     next from [] h i below = absurd (omega arith)
     next from (n ∷ rest) h zero below =
         let above = first (suc n) rest (and_right (leb from n) (ascends (suc n) rest) h) (omega arith) in

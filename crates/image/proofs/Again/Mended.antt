@@ -182,7 +182,8 @@ last_of : (flag high middle low : ℕ)
     → last_bytes (mend_last (flag ∷ high ∷ middle ∷ low ∷ [])) ≡ Four flag high middle low
 unfolding same_bytes
 last_of zero high middle low =
-    cond-holds (λ last. last_bytes last ≡ last_bytes Unknown) (is_last_of (0 ∷ high ∷ middle ∷ low ∷ [])) Unknown Unknown refl refl
+    cond-holds (λ last. last_bytes last ≡ last_bytes Unknown) (is_last_of (0 ∷ high ∷ middle ∷ low ∷ [])) Unknown
+    Unknown refl refl
 last_of (suc zero) high middle low =
     by (last_ok (Known high middle low)) (same_bytes (1 ∷ high ∷ middle ∷ low ∷ []) (1 ∷ high ∷ middle ∷ low ∷ []))
     (same_bytes_lem (1 ∷ high ∷ middle ∷ low ∷ []))

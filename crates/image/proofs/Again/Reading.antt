@@ -1,6 +1,7 @@
 -- Cross-checks only: rules told a second time.
 -- "Image read: 1 (empty), 2, 1 (length), 11": which of the refusals a reading answers, and what a refused one holds.
--- Proves: read-empty, read-kind, read_a2-kind, read_a1-length, read_a2-length, read_a1-unsound, read_a2-unsound, read-refused, read_a2-refused.
+-- Proves: read-empty, read-kind, read_a2-kind, read_a1-length, read_a2-length, read_a1-unsound, read_a2-unsound, read-refused,
+-- read_a2-refused.
 use mathlib.Core.Path.{◌≡◌, refl, ap, ◌∙◌}
 use mathlib.Core.Bool.{cond}
 use mathlib.Core.List.{List, [], ◌∷◌, ◌++◌}
@@ -36,7 +37,8 @@ module _ (kind : ℕ) (body : List ℕ) where
   -- promise
   pub read_a2-kind : (kind ≡ 0xA2 → ⊥) → (read_a2 (kind ∷ body)).code ≡ 2
   unfolding read_a2
-  read_a2-kind other = ap (λ b. (cond b (of_length size_a2 (kind ∷ body) body) (read_refused unknown_kind)).code) (ne_eqb kind kind_a2 other)
+  read_a2-kind other = ap (λ b. (cond b (of_length size_a2 (kind ∷ body) body) (read_refused unknown_kind)).code)
+      (ne_eqb kind kind_a2 other)
 
   -- promise
   pub read-kind : (kind ≡ 0xA1 → ⊥) → (kind ≡ 0xA2 → ⊥) → (read_image (kind ∷ body)).code ≡ 2
@@ -60,7 +62,8 @@ module _ (body : List ℕ) where
       → ((read_a2 (0xA2 ∷ body)).code ≡ 1) × ((read_image (0xA2 ∷ body)).code ≡ 1)
   unfolding read_a2 read_image
   read_a2-length other =
-      let short = ap (λ b. (cond b (read_body body) (read_refused wrong_length)).code) (ne_eqb (length (kind_a2 ∷ body)) size_a2 other) in
+      let short = ap (λ b. (cond b (read_body body) (read_refused wrong_length)).code)
+      (ne_eqb (length (kind_a2 ∷ body)) size_a2 other) in
       (short, short)
 
   -- "11": of the kind's length, and not read
@@ -71,7 +74,8 @@ module _ (body : List ℕ) where
   unfolding read_image
   read_a1-unsound long other =
       let whole = body ++ tail_of_a1 in
-      let sized = ap (λ b. (cond b (read_body whole) (read_refused wrong_length)).code) (eq-eqb (length (kind_a1 ∷ body)) size_a1 long) in
+      let sized = ap (λ b. (cond b (read_body whole) (read_refused wrong_length)).code)
+      (eq-eqb (length (kind_a1 ∷ body)) size_a1 long) in
       sized ∙ unsound whole (λ h. other (sized ∙ h))
 
   -- promise

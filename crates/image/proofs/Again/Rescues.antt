@@ -64,7 +64,8 @@ module _ (image : List ℕ) where
     either : ((read_a2 image).code ≡ accepted) ⊎ ((read_a2 image).code ≡ not_sound)
     either =
         subst (λ (r : Started). (r.code ≡ accepted) ⊎ (r.code ≡ not_sound)) (read-a2-whole image some_byte kind long)
-        (cond-holds (λ (r : Started). (r.code ≡ accepted) ⊎ (r.code ≡ not_sound)) (is_body_of (state_in (drop 1 image)) (drop 1 image))
+        (cond-holds (λ (r : Started). (r.code ≡ accepted) ⊎ (r.code ≡ not_sound))
+        (is_body_of (state_in (drop 1 image)) (drop 1 image))
         (record { code = accepted; state = state_in (drop 1 image) })
         (read_refused not_sound)
         (inl refl)

@@ -59,14 +59,19 @@ module _ (Code : ℕ → Type 0) where
   Fine (TheAction a) = sendable a.number ≡ true
 
   due-fine : (s : State) (front : List ℕ) (d : Due)
-      → ((row : List (List ℕ)) (bytes : List ℕ) → is_record bytes ≡ true → Code (on_record (row_end s row) bytes action_room).code)
+      → ((row : List (List ℕ)) (bytes : List ℕ) → is_record bytes ≡ true
+      → Code (on_record (row_end s row) bytes action_room).code)
       → DueAfter s front d
       → Fine d
   due-fine s front d coded (inl (row, whole, due)) = subst Fine (sym due) tt
   due-fine s front d coded (inr (row, bytes, met, left, whole, is, of, ends)) =
       let there = row_end s row in
       among Fine met d left
-      (subst (All Fine) of (coded row bytes is, by (on_record there bytes action_room).actions (on_record-sendable there bytes action_room)))
+      (subst (All Fine) of (
+        coded row bytes is,
+        by (on_record there bytes action_room).actions
+            (on_record-sendable there bytes action_room),
+      ))
     where
       by : (acts : List Action) → Sendable acts → All Fine (map TheAction acts)
       by [] all = tt

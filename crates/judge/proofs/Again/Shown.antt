@@ -93,7 +93,8 @@ pub shown-due : take 2 (drop 33 (sheet_of (cold shown_limits) shown_row)) ≡ 30
 unfolding sheet_of are_records row_end reading turn first seek places_ok sound cold closed closing_actions step on_record some recalled
     blocks
 shown-due =
-    (due-within (cold shown_limits) (take 2 shown_row) (drop 3 shown_row) (11 ∷ 0 ∷ 0 ∷ 0 ∷ 5 ∷ 32 ∷ 17 ∷ []) [] _ (TheAnswer 0)
+    (due-within (cold shown_limits) (take 2 shown_row) (drop 3 shown_row) (11 ∷ 0 ∷ 0 ∷ 0 ∷ 5 ∷ 32 ∷ 17 ∷ []) [] _
+    (TheAnswer 0)
     (take 33 shown_sheet) refl refl refl refl).1
 
 -- instance

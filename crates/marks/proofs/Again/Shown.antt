@@ -29,7 +29,8 @@ use Rattle.marks.proofs.Again.Afresh.{extend-afresh, extend-full, extend-nothing
 
 -- the shown mark is all that the log has
 front : shown_mark ≡ marks_of marked_limits marked_log
-unfolding records_in take_one marks_from mark_of body_bytes whole_bytes image_a2 blocks course taken reading turn first seek places_ok sound cold
+unfolding records_in take_one marks_from mark_of body_bytes whole_bytes image_a2 blocks course taken reading turn first seek
+    places_ok sound cold
     closed closing_actions step on_record some recalled counted tallied total_of totalled
 front = refl
 
@@ -39,7 +40,8 @@ pub shown-built :
     (whole_records marked_log ≡ 258)
     × (built marked_limits marked_log (replicate 50 7) ≡ record { code = 0; marks = 1 })
     × (built_room marked_limits marked_log (replicate 50 7) ≡ shown_mark ++ (7 ∷ 7 ∷ 7 ∷ []))
-unfolding records_in take_one begun_at extend_code extended extended_room marks_from mark_of body_bytes whole_bytes image_a2 blocks course taken
+unfolding records_in take_one begun_at extend_code extended extended_room marks_from mark_of body_bytes whole_bytes image_a2
+    blocks course taken
     reading turn first seek places_ok sound cold closed closing_actions step on_record some recalled counted tallied total_of totalled
 shown-built = (refl, (build-made marked_limits marked_log (replicate 50 7) refl (omega arith) (omega arith)).0, refl)
 
@@ -51,7 +53,8 @@ pub shown-looked :
     × ((looked_up marked_limits marked_log shown_mark 258).offset ≡ 284)
     × (image_a2 (looked_up marked_limits marked_log shown_mark 258).state
     ≡ 0xA2 ∷ 1 ∷ 2 ∷ 0 ∷ 0 ∷ 0 ∷ 1 ∷ 0 ∷ 0 ∷ (replicate 28 0 ++ (3 ∷ 1 ∷ 0 ∷ 0 ∷ 5 ∷ [])))
-unfolding records_in take_one begun_at body_bytes whole_bytes image_a2 blocks course taken reading turn first seek places_ok sound cold closed
+unfolding records_in take_one begun_at body_bytes whole_bytes image_a2 blocks course taken reading turn first seek places_ok
+    sound cold closed
     closing_actions step on_record some recalled counted tallied total_of totalled look_code looked_up places_in state_in same_bytes read_a2
 shown-looked = ((lookup-right marked_limits marked_log shown_mark 258 refl (omega arith) front (omega arith)).0, refl, refl, refl)
 
@@ -85,8 +88,10 @@ shown-eleven = look-eleven marked_limits marked_log (set shown_mark 0 0xA2) 258 
 -- marks of another log lead elsewhere: the run of 257 records stands at 277
 -- instance
 pub shown-any : (looked_up marked_limits marked_log (marks_of marked_limits (mode_log 256)) 257).offset ≡ 257
-unfolding records_in take_one begun_at marks_from mark_of body_bytes whole_bytes image_a2 blocks course taken reading turn first seek places_ok sound
-    cold closed closing_actions step on_record some recalled counted tallied total_of totalled look_code looked_up places_in state_in same_bytes
+unfolding records_in take_one begun_at marks_from mark_of body_bytes whole_bytes image_a2 blocks course taken reading turn first seek
+    places_ok sound
+    cold closed closing_actions step on_record some recalled counted tallied total_of totalled look_code looked_up places_in
+    state_in same_bytes
     read_a2 run
 shown-any = (lookup-any marked_limits marked_log (marks_of marked_limits (mode_log 256)) 257 refl).1
 
@@ -109,7 +114,8 @@ shown-full = (extend-full marked_limits cut_log later_part (replicate 93 7) (ome
 -- nothing appended, nothing changed
 -- instance
 pub shown-nothing :
-    extended_room marked_limits cut_log 1 (built_room marked_limits cut_log (replicate 94 7)) ≡ built_room marked_limits cut_log (replicate 94 7)
+    extended_room marked_limits cut_log 1 (built_room marked_limits cut_log (replicate 94 7))
+    ≡ built_room marked_limits cut_log (replicate 94 7)
 unfolding records_in take_one begun_at extend_code extended
 shown-nothing = (extend-nothing marked_limits cut_log (replicate 94 7) refl).1
 
@@ -119,7 +125,9 @@ pub shown-twice :
     extended marked_limits (cut_log ++ later_part) 1
     (extended_room marked_limits cut_log 1 (built_room marked_limits marked_log (replicate 94 7)))
     ≡ extended marked_limits (marked_log ++ ((9 ∷ 0 ∷ []) ++ later_part)) 1 (built_room marked_limits marked_log (replicate 94 7))
-unfolding records_in take_one begun_at extend_code extended extended_room marks_from mark_of body_bytes whole_bytes image_a2 blocks course taken
-    reading turn first seek places_ok sound cold closed closing_actions step on_record some recalled counted tallied total_of totalled places_in
+unfolding records_in take_one begun_at extend_code extended extended_room marks_from mark_of body_bytes whole_bytes image_a2
+    blocks course taken
+    reading turn first seek places_ok sound cold closed closing_actions step on_record some recalled counted tallied total_of
+    totalled places_in
     state_in same_bytes read_a2
 shown-twice = (extend-twice marked_limits marked_log (9 ∷ 0 ∷ []) later_part (replicate 94 7) (omega arith) refl (omega arith)).0

@@ -58,7 +58,8 @@ module _ (l : Limits) (log marks : List ℕ) (n : ℕ) where
 
         -- "19, the stop comes before record n"
         -- promise
-        pub look-stopped : whole_records (drop (mark_for l log marks n).offset log) < n % 256 → looked_up l log marks n ≡ look_refused 19
+        pub look-stopped : whole_records (drop (mark_for l log marks n).offset log) < n % 256 → looked_up l log marks n
+            ≡ look_refused 19
         look-stopped few =
             looked-refused l log marks n 19
             (look_stop l log marks n good short (mark_for l log marks n) refl led (omega (arith, read)))

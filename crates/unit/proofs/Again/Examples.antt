@@ -12,10 +12,12 @@ use Rattle.unit.specs.Examples.{examples, meant_lines, got, want}
 
 -- promise
 pub marked-hold : map got examples ≡ map want examples
-unfolding reading turn first seek places_ok sound cold cold_start closed closing_actions step on_record trace examples got want some recalled
+unfolding reading turn first seek places_ok sound cold cold_start closed closing_actions step on_record trace examples got want
+    some recalled
 marked-hold = refl
 
 -- promise
 pub meant-hold : map got meant_lines ≡ map want meant_lines
-unfolding reading turn first seek places_ok sound cold cold_start closed closing_actions step on_record trace meant_lines got want some recalled
+unfolding reading turn first seek places_ok sound cold cold_start closed closing_actions step on_record trace meant_lines got want
+    some recalled
 meant-hold = refl

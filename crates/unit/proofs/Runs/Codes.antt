@@ -63,7 +63,8 @@ module _ (s : State) where
 
   fields-code : (kind : ℕ) (bytes : List ℕ) → Fine (on_reading s (fields (row_of kind) bytes))
   fields-code kind bytes =
-      cond-holds (λ r. Fine (on_reading s r)) ((row_of kind).ranges bytes) (Meant ((row_of kind).means bytes)) (Refused refusal.out_of_range)
+      cond-holds (λ r. Fine (on_reading s r)) ((row_of kind).ranges bytes) (Meant ((row_of kind).means bytes))
+      (Refused refusal.out_of_range)
       (step-code ((row_of kind).means bytes))
       refl
 

@@ -86,7 +86,8 @@ pub run-facts : (s : State) (log : List ℕ) (b : ℕ)
     → (length log ≤ longest_log) × (sound s ≡ true)
 unfolding run
 run-facts s log b =
-    cond-case Facts (leb (length log) longest_log) (cond (sound s) ran (run_refused refusal.not_sound s)) (run_refused refusal.log_too_long s)
+    cond-case Facts (leb (length log) longest_log) (cond (sound s) ran (run_refused refusal.not_sound s))
+    (run_refused refusal.log_too_long s)
     (λ fits.
     cond-case Facts (sound s) ran (run_refused refusal.not_sound s)
     (λ good h. (leb-true (length log) longest_log fits, good))

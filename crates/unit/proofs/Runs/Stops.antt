@@ -151,7 +151,8 @@ pub run-kept : (s : State) (log : List ℕ) (budget : ℕ)
     × ((run s log budget).tally.totals ≡ no_totals)
 unfolding run
 run-kept s log budget =
-    cond-case Left (leb (length log) longest_log) (cond (sound s) ran (run_refused refusal.not_sound s)) (run_refused refusal.log_too_long s)
+    cond-case Left (leb (length log) longest_log) (cond (sound s) ran (run_refused refusal.not_sound s))
+    (run_refused refusal.log_too_long s)
     (λ fits.
     cond-case Left (sound s) ran (run_refused refusal.not_sound s)
     (λ good refused. absurd (refused (ended-code (fresh s) (course budget s log))))

@@ -1,5 +1,6 @@
 -- The records passed are the run so far.
-use Rattle.std.proofs.Common.{◌≡◌, ℕ, ◌+◌, ◌-◌, ◌≤◌, ◌<◌, true, List, length, set, drop, length-drop, refl, sym, ap, subst, ◌∙◌, arith}
+use Rattle.std.proofs.Common.{◌≡◌, ℕ, ◌+◌, ◌-◌, ◌≤◌, ◌<◌, true, List, length, set, drop, length-drop, refl, sym}
+use Rattle.std.proofs.Common.{ap, subst, ◌∙◌, arith}
 use Rattle.wire.specs.Refusals.{accepted}
 use Rattle.record.specs.Ranges.{reading_ok}
 use Rattle.record.specs.Takes.{longest_log, take_one}

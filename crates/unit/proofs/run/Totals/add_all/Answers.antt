@@ -32,7 +32,8 @@ loop-i-preserved c =
           let sent = sent_for (take i ps) (take i ks) in
           added-one
           ∙ ap (λ t. added t (get_or ks i 0)) (inv.1 ps long)
-          ∙ sym (totalled-append self sent (map (act p) (given (get_or ks i 0))) ∙ totalled-given (totalled self sent) p (get_or ks i 0))
+          ∙ sym (totalled-append self sent (map (act p) (given (get_or ks i 0)))
+          ∙ totalled-given (totalled self sent) p (get_or ks i 0))
           ∙ ap (totalled self) (sent-more ps ks i (omega (arith, long, c.loop-i-test.true)) within)),
       (λ below. rw added-one (below_more (omega arith) (added-below (most_total + i) _ _ (inv.2 below)))),
     )
