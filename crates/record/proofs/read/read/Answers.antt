@@ -1,5 +1,5 @@
 -- The refusals in their order, then the fields.
-use Rattle.std.proofs.Common.{◌∙◌, ap, sym, arith}
+use Rattle.std.proofs.Common.{◌∙◌, arith}
 use Rattle.record.proofs.ByKind.{read-empty, read-unknown, read_length, read-fields, length_some}
 use Rattle.record.proofs.read.read.Goals as goal
 

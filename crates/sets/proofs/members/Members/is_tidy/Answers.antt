@@ -1,5 +1,5 @@
 -- What was passed after the count is zeros.
-use Rattle.std.proofs.Common.{true, false, arith, refl, ap, sym, ◌∙◌, ◌≡◌, ◌≤◌, ◌∷◌, length, get_or, drop, add-one}
+use Rattle.std.proofs.Common.{true, false, arith, refl, ap, sym, ◌∙◌, ◌≤◌, ◌∷◌, length, get_or, drop, add-one}
 use Rattle.std.proofs.Math.ListN.{drop_of_length-le}
 use Rattle.std.proofs.Math.Seq.{drop-cons}
 use borrow.Author.Tests.{le-leb, lt-leb}

@@ -1,7 +1,7 @@
 -- The member of the number found.
-use Rattle.std.proofs.Common.{arith, ap, sym, ◌∙◌, ◌≡◌, ◌≤◌, length, get_or}
+use Rattle.std.proofs.Common.{arith, ap, sym, ◌∙◌, ◌≤◌, length, get_or}
 use lib.ListN.{get_or-eq_default}
-use Rattle.sets.specs.Members.{no_member, member_for, members_of}
+use Rattle.sets.specs.Members.{no_member, members_of}
 use Rattle.sets.proofs.MemberLaws.{member-first}
 use Rattle.sets.proofs.MemberLoops.{held-length, held-member}
 use Rattle.sets.proofs.FourItems.{four-items}
