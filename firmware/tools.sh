@@ -22,7 +22,7 @@ else
     run() { qemu-x86_64 -L "$sysroot" "$@"; }
 fi
 
-# Proves and builds each of them where it is not built, or is older than the sources.
+# Proves and builds each of them where it is not built, or is older than the sources, for every x86-64 (the toolchain takes x86-64-v2 else).
 library() {
     for built in "$archive" "$asks"; do
         if [ ! -f "$built" ] || [ -n "$(find ../crates ../crates.txt -name out -prune -o \( -name '*.rt' -o -name '*.antt' -o -name crates.txt \) -newer "$built" -print)" ]; then
@@ -30,7 +30,7 @@ library() {
             echo "proving and building ${built##*/}, some minutes the first time"
             crate=${built##*/lib}
             crate=${crate%.a}_c
-            said=$(cd "../crates/$crate" && rt lib 2>&1) || { echo "$said" >&2; exit 1; }
+            said=$(cd "../crates/$crate" && rt lib --cpu=x86-64 2>&1) || { echo "$said" >&2; exit 1; }
             mkdir -p ../firmware/out
             cp "../crates/$crate/out/lib$crate.a" "$built"
         fi

@@ -1,5 +1,5 @@
 #!/usr/bin/env python3
-"""Breaks the lines of the .antt files of crates/ that have over 140 bytes: an import into two, a comment at a word, other text at its last
+"""Breaks the lines of the .antt files of crates/ and the imports of the code that have over 140 bytes: an import into two, a comment at a word, other text at its last
 place outside of the inner brackets that leaves both parts short enough.
 
 usage: python3 tools/break_lines.py        at the top of the repository; then `rt fmt` in the crates' folders
@@ -17,14 +17,14 @@ def size(text):
 
 
 def of_import(line):
-    head, names = re.match(r"^(.*\{)(.*)\};?$", line).groups()
+    head, names, end = re.match(r"^(.*\{)(.*)(\};?)$", line).groups()
     names, rows = names.split(", "), []
     for name in names:
-        if rows and size(head + ", ".join(rows[-1] + [name]) + "}") <= MOST:
+        if rows and size(head + ", ".join(rows[-1] + [name]) + end) <= MOST:
             rows[-1].append(name)
         else:
             rows.append([name])
-    return [head + ", ".join(row) + "}" for row in rows]
+    return [head + ", ".join(row) + end for row in rows]
 
 
 def of_comment(line, after):
@@ -64,7 +64,8 @@ def of_text(line):
 
 
 def main():
-    for path in sorted(glob.glob("crates/*/specs/**/*.antt", recursive=True) + glob.glob("crates/*/proofs/**/*.antt", recursive=True)):
+    paths = [p for part in ("specs/**/*.antt", "proofs/**/*.antt", "src/**/*.rt") for p in glob.glob(f"crates/*/{part}", recursive=True)]
+    for path in sorted(paths):
         with open(path, encoding="utf-8") as f:
             lines = f.read().split("\n")
         out, i = [], 0
@@ -73,8 +74,11 @@ def main():
             i += 1
             if size(line) <= MOST:
                 out.append(line)
-            elif re.match(r"^ *(pub )?use .*\{.*\};?$", line):
+            elif re.match(r"^ *(pub |ghost )?use .*\{.*\};?$", line):
                 out += of_import(line)
+            elif path.endswith(".rt"):
+                print(f"{path}:{i}: left as it is")
+                out.append(line)
             elif re.match(r"^ *-- ", line):
                 rows, took = of_comment(line, lines[i] if i < len(lines) else "")
                 out += rows
