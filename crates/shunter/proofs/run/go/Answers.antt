@@ -88,7 +88,8 @@ pub returns-then-wide-budget : goal.returns-then-wide-budget
 returns-then-wide-budget c =
     let log = c.args.log.now in
     c.report-then-wide-budget.ensures
-    ∙ going-budget log c.args.budget _ c.loop-tally.tally c.loop-tally.invariant c.if-at-log.false (sym c.wide.ensures ∙ c.if-wide-budget.true)
+    ∙ going-budget log c.args.budget _ c.loop-tally.tally c.loop-tally.invariant c.if-at-log.false
+    (sym c.wide.ensures ∙ c.if-wide-budget.true)
     ∙ ap (λ t. shunter_go c.args.budget t log) c.fresh-tally.ensures
 
 pub returns-in-Stopped : goal.returns-in-Stopped
