@@ -19,15 +19,15 @@ overflow_add-at c =
 
 pub loop-i-preserved : goal.loop-i-preserved
 loop-i-preserved c =
-    passed-more _ _ _ _ _ _ c.loop-i.invariant c.if-i-count.false _ c.action_in-action.ensures _
+    passed-more _ _ _ _ _ _ c.loop-i.invariant (omega (arith, c.if-i-count.false)) _ c.action_in-action.ensures _
     c.action_at-stands.ensures
     (sym c.is_right.ensures ∙ c.if-is_right.true)
 
 pub returns-then-i-count : goal.returns-then-i-count
-returns-then-i-count c = passed-end _ _ _ _ _ _ c.loop-i.invariant c.if-i-count.true
+returns-then-i-count c = passed-end _ _ _ _ _ _ c.loop-i.invariant (omega (arith, c.if-i-count.true))
 
 pub returns-else-is_right : goal.returns-else-is_right
 returns-else-is_right c =
-    passed-fails _ _ _ _ _ _ c.loop-i.invariant c.if-i-count.false _ c.action_in-action.ensures _
+    passed-fails _ _ _ _ _ _ c.loop-i.invariant (omega (arith, c.if-i-count.false)) _ c.action_in-action.ensures _
     c.action_at-stands.ensures
     (sym c.is_right.ensures ∙ c.if-is_right.false)
