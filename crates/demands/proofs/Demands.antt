@@ -103,7 +103,7 @@ written-reads s ok = (in_image.RoundTrips.read-written s ok, in_image.RoundTrips
 -- demand D-2-3, Q-4-7: "and each image that is read is the one its state writes"
 pub read-writes : (bytes : Bytes) → (read_image bytes).code ≡ 0
     → (sound (read_image bytes).state ≡ true) × IsImageOf (read_image bytes).state bytes
-read-writes = in_image.RoundTrips.Written-Read
+read-writes = in_image.RoundTrips.written_read
 
 -- DEMAND 3: every number is a sum over the steps of demand 2. `AtMost a b c s history`: its actions are at most a · its accepted orders
 -- + b · its accepted calls 38 + c · its accepted losses; `sums_of n` counts a history from a cold start, X 1 to 2 and n tries, and

@@ -44,6 +44,7 @@ use Rattle.text.proofs as in-text
 use Rattle.onsight.proofs as in-onsight
 use Rattle.sets.proofs as in-sets
 use Rattle.judge.proofs as in-judge
+use Rattle.judge.specs.contracts as in-judge-contracts
 use Rattle.shunter.proofs as in-shunter
 use Rattle.marks.proofs as in-marks
 use Rattle.firmware.proofs as in-firmware
@@ -158,7 +159,7 @@ judge-once κ entry exit r p = p
 -- demand D-1-1: `judge:judged`, of a reader of a lent sheet and a cold start: 13, 12; in every model, of what entails the contract
 pub judged-once : {M : Type 1} {U : Ura M} (𝓛 : Logic U) (mem : Memory → SProp U) (run : Routine → Fun U) (P : SProp U)
     (κ : _) (reader : _) (limits : _) (r : _)
-    → ent U P ((in-judge.reader.judged.clauses 𝓛 mem run κ (reader, (limits, tt))).ensures tt r (reader, (limits, tt)))
+    → ent U P ((in-judge-contracts.reader.judged.clauses 𝓛 mem run κ (reader, (limits, tt))).ensures tt r (reader, (limits, tt)))
     → ent U P (fact U (r ≡ reader_judged reader limits))
 judged-once 𝓛 mem run P κ reader limits r p = p
 
