@@ -1,5 +1,6 @@
 #![tactic(auto)]
-// One tool over the box. It ends with the status that the script `resheftal` ends with.
+// One tool over the box. The program itself ends with status 0: it writes its status as a digit to descriptor 3, and the script
+// `resheftal` ends with it.
 mod asked;
 mod both;
 mod commands;
@@ -18,9 +19,14 @@ use crate::marking::mark_file;
 use crate::say::{help, misused, no_words, version};
 use crate::shunting::shunt_file;
 use std::env::{Env, FillError};
-use std::process::ExitCode;
+use std::io;
+use std::io::Write;
 use streams::buffer;
+use streams::files::open_write;
 use tools::help::Topic;
+
+// Where the status goes: descriptor 3.
+const STATUS: &[u8] = b"/dev/fd/3";
 
 fn topic_of(command: Command) -> Topic {
     match command {
@@ -96,6 +102,12 @@ fn status(rt: &HostRuntime) -> u8 {
     }
 }
 
-fn main(rt: HostRuntime) -> ExitCode {
-    ExitCode::from(status(&rt))
+// Writes the digit of a status to where it goes.
+fn hand_over(rt: &HostRuntime, digit: u8) -> io::Result<()> {
+    open_write(rt, STATUS)?.write_all(&[digit])
+}
+
+// That the status cannot be written is told nowhere.
+fn main(rt: HostRuntime) {
+    let _ = hand_over(&rt, status(&rt));
 }

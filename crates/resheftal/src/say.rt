@@ -9,11 +9,11 @@ use tools::help::{Topic, help_text, version_text};
 use tools::text::Told;
 
 // The statuses: accepted, made or found; another answer; wrong use, or something that cannot be read or written.
-pub(crate) const DONE: u8 = 0;
+pub(crate) const DONE: u8 = b'0';
 
-pub(crate) const ANOTHER: u8 = 1;
+pub(crate) const ANOTHER: u8 = b'1';
 
-pub(crate) const FAILED: u8 = 2;
+pub(crate) const FAILED: u8 = b'2';
 
 // Whether bytes are written to standard output; that they are not is told.
 pub(crate) fn is_said(rt: &HostRuntime, bytes: &[u8]) -> bool {
