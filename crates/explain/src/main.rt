@@ -3,5 +3,5 @@
 use std::io;
 
 fn main(rt: HostRuntime) -> io::Result<()> {
-    explain_body::explain(&rt, rt.alloc(), &mut rt.stdin())
+    explain_body::explain(&rt, &mut rt.stdin())
 }

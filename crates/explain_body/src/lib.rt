@@ -14,7 +14,6 @@ use crate::words::{refusal_words, stop_words};
 use place::limits::{FLEET_TRIES, Limits};
 use record::event::Reading;
 use record::take::{NOTHING_LEFT, RECORD_SHORT, Taken, take};
-use std::alloc::Global;
 use std::io;
 use std::io::Read;
 use std::num::wrapping_add_u64;
@@ -161,8 +160,13 @@ fn show_all(out: &impl Print, input: &mut impl Read, room: &mut [u8]) -> io::Res
     show_last(out, state)
 }
 
+// A reference to an array of this length is lent on as a slice with no proof; an array of a million zeros is not.
+fn lent(out: &impl Print, input: &mut impl Read, room: &mut [u8; 1048577]) -> io::Result<()> {
+    show_all(out, input, room)
+}
+
 // Explains the log that an input holds. The room is one byte more than the longest log, so that a longer one is refused, not cut.
-pub fn explain(out: &impl Print, alloc: Global, input: &mut impl Read) -> io::Result<()> {
-    let mut room = vec![in alloc; 0u8; 1048577]?;
-    show_all(out, input, room.as_mut_slice())
+pub fn explain(out: &impl Print, input: &mut impl Read) -> io::Result<()> {
+    let mut room = [0u8; 1048577];
+    lent(out, input, &mut room)
 }

@@ -8,8 +8,8 @@ use streams::files::open_read;
 fn explain_of(rt: &HostRuntime, name: &[u8], path: &[u8]) -> io::Result<()> {
     rt.write_all(name)?;
     match open_read(rt, path) {
-        Ok(mut file) => explain_body::explain(rt, rt.alloc(), &mut file),
-        Err(error) => fail(&rt.stderr(), rt.alloc(), path, error),
+        Ok(mut file) => explain_body::explain(rt, &mut file),
+        Err(error) => fail(&rt.stderr(), path, error),
     }
 }
 

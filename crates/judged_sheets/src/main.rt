@@ -46,7 +46,7 @@ pub(crate) fn read_after(
     match open_read(rt, path) {
         Ok(mut file) => read_full(&mut file, room),
         Err(error) => {
-            fail(&rt.stderr(), rt.alloc(), path, error)?;
+            fail(&rt.stderr(), path, error)?;
             Ok(0)
         }
     }

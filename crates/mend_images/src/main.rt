@@ -9,7 +9,7 @@ fn image_of(rt: &HostRuntime, name: &[u8], path: &[u8]) -> io::Result<()> {
     rt.write_all(name)?;
     match open_read(rt, path) {
         Ok(mut file) => explain_body::mended::mend_image(rt, &mut file),
-        Err(error) => fail(&rt.stderr(), rt.alloc(), path, error),
+        Err(error) => fail(&rt.stderr(), path, error),
     }
 }
 

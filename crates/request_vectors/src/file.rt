@@ -171,6 +171,6 @@ pub(crate) fn try_file(rt: &HostRuntime, name: &[u8], subject: Subject) -> io::R
     rt.write_all(b"\n")?;
     match open_read(rt, name) {
         Ok(mut file) => read_all(rt, &mut file, subject)?.write(rt),
-        Err(error) => fail(&rt.stderr(), rt.alloc(), name, error),
+        Err(error) => fail(&rt.stderr(), name, error),
     }
 }

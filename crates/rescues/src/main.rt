@@ -95,7 +95,12 @@ fn rescues_in(rt: &HostRuntime, room: &mut [u8]) -> io::Result<()> {
     rescue_all(rt, &mut room[..n])
 }
 
+// A reference to an array of this length is lent on as a slice with no proof; an array of a million zeros is not.
+fn lent(rt: &HostRuntime, room: &mut [u8; 1048576]) -> io::Result<()> {
+    rescues_in(rt, room)
+}
+
 fn main(rt: HostRuntime) -> io::Result<()> {
-    let mut room = vec![in rt.alloc(); 0u8; 1048576]?;
-    rescues_in(&rt, room.as_mut_slice())
+    let mut room = [0u8; 1048576];
+    lent(&rt, &mut room)
 }

@@ -112,7 +112,12 @@ fn steps_on(rt: &HostRuntime, room: &mut [u8]) -> io::Result<()> {
     rt.write_all(&actions)
 }
 
+// A reference to an array of this length is lent on as a slice with no proof; an array of a million zeros is not.
+fn lent(rt: &HostRuntime, room: &mut [u8; 1048576]) -> io::Result<()> {
+    steps_on(rt, room)
+}
+
 fn main(rt: HostRuntime) -> io::Result<()> {
-    let mut room = vec![in rt.alloc(); 0u8; 1048576]?;
-    steps_on(&rt, room.as_mut_slice())
+    let mut room = [0u8; 1048576];
+    lent(&rt, &mut room)
 }

@@ -3,5 +3,5 @@
 use std::io;
 
 fn main(rt: HostRuntime) -> io::Result<()> {
-    sheet_body::sheet(&rt, rt.alloc(), &mut rt.stdin())
+    sheet_body::sheet(&rt, &mut rt.stdin())
 }

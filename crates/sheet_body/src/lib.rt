@@ -3,7 +3,6 @@
 ghost use Rattle.std.specs.Prelude.{◌≤◌, length};
 ghost use Rattle.text.specs.Sheets.{sheet_room};
 
-use std::alloc::Global;
 use std::io;
 use std::io::Read;
 use streams::read_full;
@@ -19,8 +18,13 @@ fn print(out: &impl Print, input: &mut impl Read, room: &mut [u8]) -> io::Result
     out.write_all(&room[..used])
 }
 
+// A reference to an array of this length is lent on as a slice with no proof; an array of so many zeros is not.
+fn lent(out: &impl Print, input: &mut impl Read, room: &mut [u8; 786646]) -> io::Result<()> {
+    print(out, input, room)
+}
+
 // Prints the sheet of the log that an input holds.
-pub fn sheet(out: &impl Print, alloc: Global, input: &mut impl Read) -> io::Result<()> {
-    let mut room = vec![in alloc; 0u8; 786646]?;
-    print(out, input, room.as_mut_slice())
+pub fn sheet(out: &impl Print, input: &mut impl Read) -> io::Result<()> {
+    let mut room = [0u8; 786646];
+    lent(out, input, &mut room)
 }

@@ -8,9 +8,8 @@ ghost use Rattle.std.specs.Prelude.{◌≡◌, ◌<◌, length, take, IfOk};
 ghost use Rattle.std.specs.Io.{ReadsAtMost};
 ghost use Rattle.std.specs.Io.KnownBytes.{Consumes, IsAtEnd};
 
-use std::alloc::Global;
 use std::io;
-use std::io::Read;
+use std::io::{Cursor, Read, Write};
 
 // 4,096 zeros, which hold a word or a short text. The clause gives only the length, which lending the array as a slice needs.
 pub fn buffer() -> [u8; 4096]
@@ -59,18 +58,22 @@ pub fn print_byte<P: Print>(out: &P, byte: u8) -> io::Result<()> {
 }
 
 // Writes a line: what failed, as the caller names it, a colon and the system's words for the error, without its number.
-pub fn fail<P: Print>(out: &P, alloc: Global, what: &[u8], error: io::Error) -> io::Result<()> {
-    let text = error.to_string(alloc)?;
+pub fn fail<P: Print>(out: &P, what: &[u8], error: io::Error) -> io::Result<()> {
+    let mut text = Cursor::new([0u8; 256]);
+    let _ = write!(text, "{error}");
+    let room = text.into_inner();
     out.write_all(what)?;
     out.write_all(b": ")?;
-    out.write_all(words_of(text.as_str()).as_bytes())?;
+    out.write_all(words_of(&room))?;
     out.write_all(b"\n")
 }
 
-// The text of an error up to the number that the library puts behind it.
-fn words_of(text: &str) -> &str {
-    match text.split_once(" (os error ") {
-        Some((words, _)) => words,
-        None => text,
+// The text of an error up to the number that the library puts behind it, or to the zeros that follow it.
+fn words_of(text: &[u8]) -> &[u8] {
+    for i in 0..text.len() {
+        if text[i] == 0 || text[i..].starts_with(b" (os error ") {
+            return &text[..i];
+        }
     }
+    text
 }

@@ -92,6 +92,6 @@ fn read_all<P: Print, F: Read>(out: &P, file: &mut F) -> io::Result<Tally> {
 pub fn judge_file(rt: &HostRuntime, name: &[u8]) -> io::Result<()> {
     match open_read(rt, name) {
         Ok(mut file) => read_all(rt, &mut file)?.write(rt),
-        Err(error) => fail(&rt.stderr(), rt.alloc(), name, error),
+        Err(error) => fail(&rt.stderr(), name, error),
     }
 }
