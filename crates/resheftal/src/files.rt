@@ -36,7 +36,7 @@ pub(crate) fn complain(rt: &HostRuntime, words: &[u8]) {
 
 // A line on standard error: what failed, and why. That it cannot be written is told nowhere.
 fn complain_why(rt: &HostRuntime, name: &[u8], error: io::Error) {
-    let _ = fail(&rt.stderr(), rt.alloc(), name, error);
+    let _ = fail(&rt.stderr(), name, error);
 }
 
 // What was reached; that a read failed is told of this name.
