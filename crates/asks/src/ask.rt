@@ -1,10 +1,11 @@
 // The functions that C asks with. None of them writes anything.
-ghost use Rattle.std.specs.Prelude.{◌≡◌, ◌≤◌, pos, neg_ℤ};
+ghost use Rattle.std.specs.Prelude.{◌≡◌, ◌≤◌, pos};
 ghost use Rattle.std.specs.Int.{w32};
 ghost use Rattle.std.proofs.Common.{SFits};
 ghost use Rattle.unit.specs.States.{place_count};
 ghost use Rattle.asks.specs.Asks.{interface_number, reads_returned, standing_number, standing_returned};
 
+use firmware::step::minus;
 use image::read::read_a2;
 use unit::search::Standing;
 use wire::refusal::ACCEPTED;
@@ -14,13 +15,6 @@ const INTERFACE: u32 = 1;
 
 // What a place counts for where place and phase are one number.
 const PER_PLACE: usize = 16;
-
-// Minus the number of a refusal.
-fn minus(code: u8) -> i32
-    ensures { (result ≡ neg_ℤ (pos code)) × SFits w32 (neg_ℤ (pos code)) }
-{
-    0 - code as i32
-}
 
 // The number of the interface that this library has.
 pub fn resheftal_interface() -> u32

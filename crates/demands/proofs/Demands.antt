@@ -40,7 +40,7 @@ use Rattle.firmware.proofs as in-firmware
 use Rattle.demands.specs.Words.{Bytes, cold_state, IsRefused, Untouched, IsImageOf, AtMost, AtMostFor, gives, is14, InState}
 use Rattle.demands.specs.Words.{StillHeld, InPhase, FoundAs, Accepts, Ours, line, modems, mark_many, LooksUp, seen_of, Board, seen_by}
 use Rattle.demands.specs.Words.{last_of, records_by, byte, is_rbc, reserved, reading, taken, Partner, Reading, Whole}
-use Rattle.demands.specs.Words.{tries, again, judged, Limits, Connecting, Contacting, Open, Lost, Ending, Place, Stays, Released}
+use Rattle.demands.specs.Words.{again, judged, Limits, Connecting, Contacting, Open, Lost, Ending, Place, Stays, Released}
 use Rattle.demands.specs.Words.{Becomes, Sends, examples, got, want, got_bytes, want_bytes, sent_bytes, cold_start, default_start}
 use Rattle.demands.specs.Words.{cold, sound, seek, meant, rbc_of, to_rbc, on_record, run, course, applies, tallied, fresh}
 use Rattle.demands.specs.Words.{count, nobody, concern_of, Numbered, Says, State, Action, Last, Unknown, Known, Found, At, Vacant}

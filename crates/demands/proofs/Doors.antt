@@ -2,8 +2,8 @@
 -- anything first." Each door of docs/EXCEPTIONS.md has a line: whatever satisfies its contract is the answer that stands here, and of
 -- what is lent the bytes that stand here, so there is no second one. That there is one, and that nothing is asked of the caller, is the
 -- checker's acceptance of a function whose contract has no `requires` (docs/CONTRACTS.txt). Behind a name stand its refusals, first that
--- applies.
-use mathlib.Core.Path.{◌≡◌, ap₂}
+-- applies. What answers by an enum is told in the numbers of document 01, and no second answer is told so.
+use mathlib.Core.Path.{◌≡◌, sym, ap₂, ◌∙◌}
 use lib.ListN.{length}
 use seplogic.Ra.Ura.{Ura}
 use base.Logic.{SProp, ent}
@@ -14,6 +14,9 @@ use contract.Monad.{Fun, fact}
 use Rattle.demands.specs.Words.{Bytes, One, OneLent}
 use Rattle.record.specs.Records.{reading}
 use Rattle.record.specs.Takes.{taken}
+use Rattle.record.specs.Readings.{told_reading}
+use Rattle.record.specs.Stops.{told_taken}
+use Rattle.record.proofs.Told.{told-one, taken-one}
 use Rattle.unit.specs.States.{cold_start, default_start, sound}
 use Rattle.unit.specs.OnRecords.{applied, on_record, written}
 use Rattle.unit.specs.Forms.{packed, stepped}
@@ -79,12 +82,18 @@ pub run-once : One in-unit.run.run.Reads.Post (λ (s, (log, (budget, _))). run s
 run-once κ entry exit r p = p
 
 -- demand D-1-1: `record:read`, of a record: 1, 2, 1, 3
-pub read-once : One in-record.read.read.Reads.Post (λ (bytes, _). reading bytes.now)
-read-once κ entry exit r p = p
+pub read-once : (κ : _) (entry : _) (exit : _) (r : _) (q : _)
+    → in-record.read.read.Reads.Post κ entry r exit
+    → in-record.read.read.Reads.Post κ entry q exit
+    → (told_reading r ≡ reading entry.0.now) × (r ≡ q)
+read-once κ entry exit r q first second = (first, told-one r q (first ∙ sym second))
 
 -- demand D-1-1: `record:take`, of a log: 12
-pub take-once : One in-record.take.take.Reads.Post (λ (log, _). taken log.now)
-take-once κ entry exit r p = p
+pub take-once : (κ : _) (entry : _) (exit : _) (r : _) (q : _)
+    → in-record.take.take.Reads.Post κ entry r exit
+    → in-record.take.take.Reads.Post κ entry q exit
+    → (told_taken r ≡ taken entry.0.now) × (r ≡ q)
+take-once κ entry exit r q first second = (first, taken-one r q (first ∙ sym second))
 
 -- demand D-1-1: `image:write_a2`, of a state and a lent buffer: 10, 11
 pub write-a2-once : OneLent in_image.write.write_a2.Reads.Post (λ (_, (buffer, _)). buffer.now)
@@ -156,10 +165,11 @@ set-run-once κ entry exit r p = p
 pub judge-once : One in-judge.judge.judge.Reads.Post (λ (limits, (sheet, _)). judgement limits sheet.now)
 judge-once κ entry exit r p = p
 
--- demand D-1-1: `judge:judged`, of a reader of a lent sheet and a cold start: 13, 12; in every model, of what entails the contract
+-- demand D-1-1: `judge:Reader.judged`, of a reader of a lent sheet and a cold start: 13, 12; in every model, of what entails the contract
 pub judged-once : {M : Type 1} {U : Ura M} (𝓛 : Logic U) (mem : Memory → SProp U) (run : Routine → Fun U) (P : SProp U)
     (κ : _) (reader : _) (limits : _) (r : _)
-    → ent U P ((in-judge-contracts.reader.judged.clauses 𝓛 mem run κ (reader, (limits, tt))).ensures tt r (reader, (limits, tt)))
+    → ent U P
+    ((in-judge-contracts.reader.Reader.judged.clauses 𝓛 mem run κ (reader, (limits, tt))).ensures tt r (reader, (limits, tt)))
     → ent U P (fact U (r ≡ reader_judged reader limits))
 judged-once 𝓛 mem run P κ reader limits r p = p
 

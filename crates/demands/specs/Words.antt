@@ -16,8 +16,8 @@ pub use Rattle.record.specs.Records.{reading}
 pub use Rattle.record.specs.Takes.{taken}
 pub use Rattle.record.specs.declared.partner.Partner.{Partner}
 use Rattle.record.specs.declared.event.PartnerEvent.TheVariants.{Drop, Up, Loss, Timeout, Version, Ended}
-pub use Rattle.record.specs.declared.event.Reading.{Reading}
-pub use Rattle.record.specs.declared.take.Taken.TheVariants.{Whole}
+pub use Rattle.record.specs.Readings.{Reading}
+pub use Rattle.record.specs.Takes.{Whole}
 -- place
 pub use Rattle.place.specs.Places.{vacant, tries}
 use Rattle.place.specs.Places.{holds, is_free, held_phase}

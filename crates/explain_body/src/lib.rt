@@ -3,161 +3,111 @@
 // `explains`: a line for each record of a log, which is shown before it is applied, then why the log ends there, the places as they stand,
 // and the last known RBC. It cold starts with X from 1 to 2 and three tries, as `sheet` does.
 pub mod mended;
-mod print;
 mod show;
 pub mod stored;
 mod words;
 
-use crate::print::{number, say};
-use crate::show::{show_answer, show_last, show_places, show_record};
+use crate::show::{Record, show_answer, show_last, show_places};
 use crate::words::{refusal_words, stop_words};
 use place::limits::{FLEET_TRIES, Limits};
-use record::event::Reading;
-use record::take::{NOTHING_LEFT, RECORD_SHORT, Taken, take};
+use record::event::Event;
+use record::stop::Stop;
+use record::take::{Front, take};
 use std::io;
 use std::io::Read;
-use std::num::wrapping_add_u64;
 use streams::read_full;
 use unit::start::cold_start;
 use unit::state::State;
-use wire::byte::byte_at;
+use wire::refusal::Refusal;
 
-// How far the log is explained: the state, the offset reached, the records read, and whether more may follow.
+// How far the log is explained: the state, the offset reached, and the records read.
 #[derive(Clone, Copy)]
 struct Walk {
     state: State,
     at: usize,
     read: u64,
-    more: bool,
 }
 
 impl Walk {
     // The last line: the stop in words, with the kind that stands there if one does.
-    fn stopped(self, out: &impl Print, stop: u8, rest: &[u8]) -> io::Result<Walk> {
-        let state = self.state;
-        say(out, b"stop ")?;
-        number(out, stop as u64)?;
-        say(out, b": ")?;
-        stop_words(out, stop)?;
-        if rest.len() > 0 {
-            say(out, b", kind ")?;
-            number(out, byte_at(rest, 0) as u64)?;
+    fn show_stop(self, out: &impl Print, stop: Stop, rest: &[u8]) -> io::Result<()> {
+        print!(out; "stop {}: {}", stop.number(), stop_words(stop))?;
+        if let Some(kind) = rest.first() {
+            print!(out; ", kind {kind}")?;
         }
-        say(out, b"; records ")?;
-        number(out, self.read)?;
-        say(out, b", bytes ")?;
-        number(out, self.at as u64)?;
-        say(out, b"\n")?;
-        Ok(Walk {
-            state,
-            at: self.at,
-            read: self.read,
-            more: false,
-        })
+        println!(out; "; records {}, bytes {}", self.read, self.at)
     }
 
-    // The refusal of a log that is too long.
-    fn refused(self, out: &impl Print, code: u8) -> io::Result<Walk> {
-        let state = self.state;
-        say(out, b"refused with ")?;
-        number(out, code as u64)?;
-        say(out, b": ")?;
-        refusal_words(out, code)?;
-        say(out, b"\n")?;
-        Ok(Walk {
-            state,
-            at: self.at,
-            read: self.read,
-            more: false,
-        })
-    }
-
-    // The record at the front of the rest, shown as it was taken and then applied.
+    // The record of this length at the front of the rest, shown as it was taken and then applied; none where it does not stand whole.
     fn record(
         self,
         out: &impl Print,
         rest: &[u8],
         length: usize,
-        reading: Reading,
-    ) -> io::Result<Walk> {
-        if rest.len() < length {
-            return self.stopped(out, RECORD_SHORT, rest);
-        }
-        let ordinal = wrapping_add_u64(self.read, 1);
-        let state = self.state;
-        show_record(
-            out,
+        reading: Result<Event, Refusal>,
+    ) -> io::Result<Option<Walk>> {
+        let Some(bytes) = rest.get(..length) else {
+            self.show_stop(out, Stop::RecordShort, rest)?;
+            return Ok(None);
+        };
+        let ordinal = self.read.wrapping_add(1);
+        let record = Record {
             ordinal,
-            self.at,
+            at: self.at,
+            bytes,
             reading,
-            byte_at(rest, 0),
-            byte_at(rest, 1),
-        )?;
-        let answer = state.apply(&rest[0..length]);
-        let next = answer.state;
+        };
+        record.show(out)?;
+        let answer = self.state.apply(bytes);
         show_answer(out, answer)?;
-        Ok(Walk {
-            state: next,
-            at: sum(self.at, length),
+        Ok(Some(Walk {
+            state: answer.state,
+            at: self.at.saturating_add(length),
             read: ordinal,
-            more: true,
-        })
+        }))
     }
 
-    // What stands next.
-    fn next(self, out: &impl Print, log: &[u8]) -> io::Result<Walk> {
-        let at = self.at;
-        if at > log.len() {
-            return self.stopped(out, NOTHING_LEFT, &log[..0]);
-        }
-        let rest = &log[at..];
+    // The walk after what stands next; none where the log ends there, or is too long.
+    fn next(self, out: &impl Print, log: &[u8]) -> io::Result<Option<Walk>> {
+        let rest = log.get(self.at..).unwrap_or(&log[..0]);
         match take(rest) {
-            Taken::Whole { length, reading } => self.record(out, rest, length, reading),
-            Taken::Stopped(stop) => self.stopped(out, stop, rest),
-            Taken::Refused(code) => self.refused(out, code),
+            Ok(Front::Next { length, reading }) => return self.record(out, rest, length, reading),
+            Ok(Front::Stop(stop)) => self.show_stop(out, stop, rest)?,
+            Err(refusal) => {
+                let code = refusal.number();
+                println!(out; "refused with {code}: {}", refusal_words(code))?
+            }
         }
+        Ok(None)
     }
 }
 
-// The sum of two offsets; no log is so long that it does not fit.
-fn sum(a: usize, b: usize) -> usize {
-    if b <= usize::MAX - a { a + b } else { a }
-}
-
-// A log of so many bytes has no more records, and one turn more finds the stop.
-fn through(out: &impl Print, log: &[u8]) -> io::Result<Walk> {
+// The state after a log. One of so many bytes has no more records, and one turn more finds the stop.
+fn through(out: &impl Print, log: &[u8]) -> io::Result<State> {
     let start = cold_start(Limits {
         lowest: 1,
         highest: 2,
         tries: FLEET_TRIES,
     });
-    let state = start.state;
     let mut so_far = Walk {
-        state,
+        state: start.state,
         at: 0,
         read: 0,
-        more: true,
     };
-    let mut left = log.len();
-    loop {
-        so_far = so_far.next(out, log)?;
-        if left == 0 {
-            break Ok(so_far);
-        }
-        if so_far.more {
-            left -= 1;
-        } else {
-            break Ok(so_far);
+    for _ in 0..=log.len() {
+        match so_far.next(out, log)? {
+            Some(next) => so_far = next,
+            None => break,
         }
     }
+    Ok(so_far.state)
 }
 
 fn show_all(out: &impl Print, input: &mut impl Read, room: &mut [u8]) -> io::Result<()> {
     let n = read_full(input, room)?;
-    let end = through(out, &room[..n])?;
-    let state = end.state;
+    let state = through(out, &room[..n])?;
     show_places(out, state)?;
-    show_last(out, state)
+    show_last(out, state.last)
 }
 
 // A reference to an array of this length is lent on as a slice with no proof; an array of a million zeros is not.

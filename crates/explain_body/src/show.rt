@@ -1,18 +1,18 @@
 // A record, an answer and the places, each in words.
-use crate::print::{number, say};
 use crate::words::{
-    action_words, cause_words, direction_words, kind_words, mission_words, phase_name, phase_words,
+    action_words, cause_words, direction_words, kind_words, mission_words, phase_words,
     refusal_words,
 };
 use place::place::{Holding, Place};
-use record::event::{Event, PartnerEvent, Reading};
+use record::event::{Event, PartnerEvent};
 use record::partner::{Partner, RBC};
-use std::io;
-use unit::answer::{Action, Actions, Answer, MOST_ACTIONS};
+use std::{fmt, io};
+use unit::answer::{Action, Answer};
 use unit::last::Last;
 use unit::search::Standing;
 use unit::state::{PLACES, State};
-use wire::refusal::ACCEPTED;
+use wire::byte::byte_at;
+use wire::refusal::{ACCEPTED, Refusal};
 
 // Versions of one X.
 const VERSIONS_OF_X: u8 = 16;
@@ -20,253 +20,231 @@ const VERSIONS_OF_X: u8 = 16;
 // The level that is NTC.
 const LEVEL_NTC: u64 = 4;
 
-fn partner_words(out: &impl Print, partner: Partner) -> io::Result<()> {
-    if partner.is_rbc() {
-        say(out, b"RBC ")?;
-    } else {
-        say(out, b"RIU ")?;
+// A partner by its type and number.
+#[derive(Clone, Copy)]
+struct Named(Partner);
+
+impl fmt::Display for Named {
+    fn fmt<W: fmt::Write>(&self, f: &mut fmt::Formatter<W>) -> fmt::Result {
+        let partner = self.0;
+        let kind = if partner.is_rbc() { "RBC" } else { "RIU" };
+        let number = u32::from_be_bytes([0, partner.high, partner.middle, partner.low]);
+        write!(f, "{kind} {number}")
     }
-    number(
-        out,
-        partner.high as u64 * 65536 + partner.middle as u64 * 256 + partner.low as u64,
-    )
 }
 
 // The partner of an order, which may be the last known RBC.
-fn ordered_words(out: &impl Print, partner: Partner) -> io::Result<()> {
-    if partner.is_reserved() {
-        say(out, b"the last known RBC")
-    } else {
-        partner_words(out, partner)
-    }
-}
+#[derive(Clone, Copy)]
+struct Ordered(Partner);
 
-pub(crate) fn level_words(out: &impl Print, level: u64, manual: bool) -> io::Result<()> {
-    say(out, b"level ")?;
-    if level == LEVEL_NTC {
-        say(out, b"NTC")?;
-    } else {
-        number(out, level)?;
-    }
-    if manual {
-        say(out, b", manual")?;
-    }
-    Ok(())
-}
-
-fn hole_words(out: &impl Print, entered: bool) -> io::Result<()> {
-    if entered {
-        say(out, b"hole entered")
-    } else {
-        say(out, b"hole left")
-    }
-}
-
-fn accepting_words(out: &impl Print, accepting: bool) -> io::Result<()> {
-    if accepting {
-        say(out, b", accepting, ")
-    } else {
-        say(out, b", not accepting, ")
-    }
-}
-
-fn end_all_words(out: &impl Print, error: bool) -> io::Result<()> {
-    if error {
-        say(out, b"end all, error")
-    } else {
-        say(out, b"end all, desk closed")
-    }
-}
-
-fn version_words(out: &impl Print, version: u8) -> io::Result<()> {
-    say(out, b", version ")?;
-    number(out, (version / VERSIONS_OF_X) as u64)?;
-    say(out, b".")?;
-    number(out, (version % VERSIONS_OF_X) as u64)
-}
-
-fn named_words(out: &impl Print, partner: Partner, event: PartnerEvent) -> io::Result<()> {
-    match event {
-        PartnerEvent::Drop => {
-            say(out, b"drop ")?;
-            partner_words(out, partner)
-        }
-        PartnerEvent::Up => {
-            say(out, b"connection up to ")?;
-            partner_words(out, partner)
-        }
-        PartnerEvent::Loss => {
-            say(out, b"connection lost to ")?;
-            partner_words(out, partner)
-        }
-        PartnerEvent::Timeout => {
-            say(out, b"timeout of ")?;
-            partner_words(out, partner)
-        }
-        PartnerEvent::Version(version) => {
-            say(out, b"message 32 from ")?;
-            partner_words(out, partner)?;
-            version_words(out, version)
-        }
-        PartnerEvent::Ended => {
-            say(out, b"message 39 from ")?;
-            partner_words(out, partner)
+impl fmt::Display for Ordered {
+    fn fmt<W: fmt::Write>(&self, f: &mut fmt::Formatter<W>) -> fmt::Result {
+        if self.0.is_reserved() {
+            write!(f, "the last known RBC")
+        } else {
+            write!(f, "{}", Named(self.0))
         }
     }
 }
 
-fn event_words(out: &impl Print, event: Event, first: u8) -> io::Result<()> {
-    match event {
-        Event::Level { level, manual } => level_words(out, level, manual),
-        Event::Mission { mission } => {
-            say(out, b"mission ")?;
-            mission_words(out, mission)
+// A level, and whether it was changed by hand.
+#[derive(Clone, Copy)]
+pub(crate) struct Level {
+    pub(crate) level: u64,
+    pub(crate) manual: bool,
+}
+
+impl fmt::Display for Level {
+    fn fmt<W: fmt::Write>(&self, f: &mut fmt::Formatter<W>) -> fmt::Result {
+        let manual = if self.manual { ", manual" } else { "" };
+        if self.level == LEVEL_NTC {
+            write!(f, "level NTC{manual}")
+        } else {
+            write!(f, "level {}{manual}", self.level)
         }
-        Event::Mode => say(out, b"mode change"),
-        Event::Hole { entered } => hole_words(out, entered),
-        Event::Order {
-            partner,
-            accepting,
-            cause,
-        } => {
-            say(out, b"order to ")?;
-            ordered_words(out, partner)?;
-            accepting_words(out, accepting)?;
-            cause_words(out, cause)
-        }
-        Event::EndAll => end_all_words(out, first == 1),
-        Event::Call { partner } => {
-            say(out, b"message 38 from ")?;
-            partner_words(out, partner)
-        }
-        Event::Named { partner, event } => named_words(out, partner, event),
     }
 }
 
-// A record that was taken and is not applied yet: its number, its offset, and the event; or, where a field is outside its range, the
-// kind. Why all ends, an event does not say: it stands in the first byte of the body.
-pub(crate) fn show_record(
-    out: &impl Print,
-    ordinal: u64,
-    at: usize,
-    reading: Reading,
-    kind: u8,
+// A version, by its X and its Y.
+#[derive(Clone, Copy)]
+struct Version(u8);
+
+impl fmt::Display for Version {
+    fn fmt<W: fmt::Write>(&self, f: &mut fmt::Formatter<W>) -> fmt::Result {
+        write!(f, "{}.{}", self.0 / VERSIONS_OF_X, self.0 % VERSIONS_OF_X)
+    }
+}
+
+// An event that names its partner.
+#[derive(Clone, Copy)]
+struct Told {
+    partner: Partner,
+    event: PartnerEvent,
+}
+
+impl fmt::Display for Told {
+    fn fmt<W: fmt::Write>(&self, f: &mut fmt::Formatter<W>) -> fmt::Result {
+        let partner = Named(self.partner);
+        match self.event {
+            PartnerEvent::Drop => write!(f, "drop {partner}"),
+            PartnerEvent::Up => write!(f, "connection up to {partner}"),
+            PartnerEvent::Loss => write!(f, "connection lost to {partner}"),
+            PartnerEvent::Timeout => write!(f, "timeout of {partner}"),
+            PartnerEvent::Version(version) => {
+                write!(f, "message 32 from {partner}, version {}", Version(version))
+            }
+            PartnerEvent::Ended => write!(f, "message 39 from {partner}"),
+        }
+    }
+}
+
+// An event, and the first byte of its record's body: why all ends, an event does not say.
+#[derive(Clone, Copy)]
+struct Said {
+    event: Event,
     first: u8,
-) -> io::Result<()> {
-    number(out, ordinal)?;
-    say(out, b" at ")?;
-    number(out, at as u64)?;
-    say(out, b": ")?;
-    match reading {
-        Reading::Meant(event) => event_words(out, event, first),
-        Reading::Refused(_) => kind_words(out, kind),
-    }
 }
 
-fn show_action(out: &impl Print, action: Action) -> io::Result<()> {
-    let partner = action.partner;
-    say(out, b"; ")?;
-    action_words(out, action.number)?;
-    partner_words(out, partner)
-}
-
-// The action of this number among a step's, if it has so many.
-fn show_action_at(out: &impl Print, actions: Actions, i: usize) -> io::Result<()> {
-    if i < actions.count {
-        if i < MOST_ACTIONS {
-            show_action(out, actions.items[i])?;
+impl fmt::Display for Said {
+    fn fmt<W: fmt::Write>(&self, f: &mut fmt::Formatter<W>) -> fmt::Result {
+        match self.event {
+            Event::Level { level, manual } => write!(f, "{}", Level { level, manual }),
+            Event::Mission { mission } => write!(f, "mission {}", mission_words(mission)),
+            Event::Mode => write!(f, "mode change"),
+            Event::Hole { entered } => {
+                write!(f, "hole {}", if entered { "entered" } else { "left" })
+            }
+            Event::Order {
+                partner,
+                accepting,
+                cause,
+            } => {
+                let not = if accepting { "" } else { "not " };
+                let partner = Ordered(partner);
+                write!(
+                    f,
+                    "order to {partner}, {not}accepting, {}",
+                    cause_words(cause)
+                )
+            }
+            Event::EndAll => {
+                let error = self.first == 1;
+                write!(
+                    f,
+                    "end all, {}",
+                    if error { "error" } else { "desk closed" }
+                )
+            }
+            Event::Call { partner } => write!(f, "message 38 from {}", Named(partner)),
+            Event::Named { partner, event } => write!(f, "{}", Told { partner, event }),
         }
     }
-    Ok(())
 }
 
-fn show_actions(out: &impl Print, actions: Actions) -> io::Result<()> {
-    show_action_at(out, actions, 0)?;
-    show_action_at(out, actions, 1)?;
-    show_action_at(out, actions, 2)?;
-    show_action_at(out, actions, 3)
+// A record that was taken and is not applied yet: its number, its offset, its bytes, and what they mean.
+#[derive(Clone, Copy)]
+pub(crate) struct Record<'a> {
+    pub(crate) ordinal: u64,
+    pub(crate) at: usize,
+    pub(crate) bytes: &'a [u8],
+    pub(crate) reading: Result<Event, Refusal>,
+}
+
+impl<'a> Record<'a> {
+    // The number, the offset and the event; or, where a field is outside its range, the kind.
+    pub(crate) fn show(&self, out: &impl Print) -> io::Result<()> {
+        print!(out; "{} at {}: ", self.ordinal, self.at)?;
+        match self.reading {
+            Ok(event) => {
+                let first = byte_at(self.bytes, 1);
+                print!(out; "{}", Said { event, first })
+            }
+            Err(_) => print!(out; "{}", kind_words(byte_at(self.bytes, 0))),
+        }
+    }
+}
+
+// An action, and the partner that it is for.
+#[derive(Clone, Copy)]
+struct Sent(Action);
+
+impl fmt::Display for Sent {
+    fn fmt<W: fmt::Write>(&self, f: &mut fmt::Formatter<W>) -> fmt::Result {
+        let partner = Named(self.0.partner);
+        write!(f, "{} {partner}", action_words(self.0.number))
+    }
 }
 
 // The place and the phase of the partner, where the answer says them.
 fn show_standing(out: &impl Print, standing: Standing) -> io::Result<()> {
-    if standing.place < PLACES {
-        say(out, b" (place ")?;
-        number(out, standing.place as u64)?;
-        say(out, b", ")?;
-        phase_words(out, standing.phase)?;
-        say(out, b")")?;
+    let Standing { place, phase } = standing;
+    if place < PLACES {
+        print!(out; " (place {place}, {})", phase_words(phase))?;
     }
     Ok(())
 }
 
 // What the box answered: taken, with its actions, or refused.
 pub(crate) fn show_answer(out: &impl Print, answer: Answer) -> io::Result<()> {
-    if answer.code == ACCEPTED {
-        say(out, b" - taken")?;
-        show_actions(out, answer.actions)?;
+    let code = answer.code;
+    if code == ACCEPTED {
+        print!(out; " - taken")?;
+        let actions = answer.actions;
+        for action in actions.items.iter().take(actions.count) {
+            print!(out; "; {}", Sent(*action))?;
+        }
     } else {
-        say(out, b" - refused with ")?;
-        number(out, answer.code as u64)?;
-        say(out, b": ")?;
-        refusal_words(out, answer.code)?;
+        print!(out; " - refused with {code}: {}", refusal_words(code))?;
         show_standing(out, answer.standing)?;
     }
-    say(out, b"\n")
+    println!(out; "")
 }
 
-fn place_words(out: &impl Print, place: Place) -> io::Result<()> {
-    let holding = place.holding;
-    match holding {
-        Holding::Free => say(out, b"free"),
-        Holding::Held {
-            direction,
-            phase,
-            partner,
-        } => {
-            partner_words(out, partner)?;
-            say(out, b", ")?;
-            direction_words(out, direction)?;
-            say(out, b", ")?;
-            phase_name(out, phase)?;
-            say(out, b", tries ")?;
-            number(out, phase.tries() as u64)
+// What a place holds.
+#[derive(Clone, Copy)]
+struct Held(Place);
+
+impl fmt::Display for Held {
+    fn fmt<W: fmt::Write>(&self, f: &mut fmt::Formatter<W>) -> fmt::Result {
+        match self.0.holding {
+            Holding::Free => write!(f, "free"),
+            Holding::Held {
+                direction,
+                phase,
+                partner,
+            } => {
+                write!(f, "{}, {}", Named(partner), direction_words(direction))?;
+                write!(
+                    f,
+                    ", {}, tries {}",
+                    phase_words(phase.number()),
+                    phase.tries()
+                )
+            }
         }
     }
-}
-
-fn show_place(out: &impl Print, i: u64, place: Place) -> io::Result<()> {
-    say(out, b"place ")?;
-    number(out, i)?;
-    say(out, b": ")?;
-    place_words(out, place)?;
-    say(out, b"\n")
 }
 
 // The last known RBC, or that there is none.
-pub(crate) fn show_last(out: &impl Print, state: State) -> io::Result<()> {
-    let last = state.last;
-    say(out, b"last known: ")?;
+pub(crate) fn show_last(out: &impl Print, last: Last) -> io::Result<()> {
     match last {
-        Last::Unknown => say(out, b"none"),
+        Last::Unknown => println!(out; "last known: none"),
         Last::Known { high, middle, low } => {
-            partner_words(
-                out,
-                Partner {
-                    kind: RBC,
-                    high,
-                    middle,
-                    low,
-                },
-            )
+            let partner = Partner {
+                kind: RBC,
+                high,
+                middle,
+                low,
+            };
+            println!(out; "last known: {}", Named(partner))
         }
-    }?;
-    say(out, b"\n")
+    }
 }
 
 // The places as they stand.
 pub(crate) fn show_places(out: &impl Print, state: State) -> io::Result<()> {
-    show_place(out, 0, state.places[0])?;
-    show_place(out, 1, state.places[1])?;
-    show_place(out, 2, state.places[2])?;
-    show_place(out, 3, state.places[3])
+    for (i, place) in state.places.iter().enumerate() {
+        println!(out; "place {i}: {}", Held(*place))?;
+    }
+    Ok(())
 }

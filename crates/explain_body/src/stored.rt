@@ -1,81 +1,83 @@
 // What a stored image of either kind holds, in words; then the same state as A2 and as A1 in hex, or why it cannot be written so.
-use crate::print::{number, say};
-use crate::show::{level_words, show_last, show_places};
+use crate::show::{Level, show_last, show_places};
 use crate::words::{image_refusal_words, mission_words};
 use image::layout::KIND_A1;
 use image::read::read_image;
 use image::write::{write_a1, write_a2};
 use place::limits::Limits;
-use std::io;
 use std::io::Read;
+use std::{fmt, io};
 use streams::{print_byte, read_full};
 use unit::state::{Marks, State, Train};
 use wire::byte::byte_at;
-use wire::join::or;
 use wire::refusal::ACCEPTED;
 
 fn show_limits(out: &impl Print, limits: Limits) -> io::Result<()> {
-    say(out, b"X ")?;
-    number(out, limits.lowest as u64)?;
-    say(out, b" to ")?;
-    number(out, limits.highest as u64)?;
-    say(out, b", tries ")?;
-    number(out, limits.tries as u64)?;
-    say(out, b"\n")
+    let Limits {
+        lowest,
+        highest,
+        tries,
+    } = limits;
+    println!(out; "X {lowest} to {highest}, tries {tries}")
 }
 
 fn show_train(out: &impl Print, train: Train) -> io::Result<()> {
-    level_words(out, train.level, false)?;
-    say(out, b", mission ")?;
-    mission_words(out, train.mission)?;
-    say(out, b"\n")
+    let level = Level {
+        level: train.level,
+        manual: false,
+    };
+    println!(out; "{level}, mission {}", mission_words(train.mission))
 }
 
-fn mark_words(out: &impl Print, mark: bool, words: &[u8]) -> io::Result<()> {
-    if mark {
-        say(out, words)?;
-    }
-    Ok(())
+// The words of a mark where it is set.
+fn mark_words(mark: bool, words: &'static str) -> &'static str {
+    if mark { words } else { "" }
 }
 
 fn show_marks(out: &impl Print, marks: Marks) -> io::Result<()> {
-    say(out, b"marks:")?;
-    mark_words(out, marks.inside, b" inside a radio hole;")?;
-    mark_words(out, marks.mode, b" mode change to report;")?;
-    mark_words(out, marks.manual, b" manual level change;")?;
-    mark_words(out, marks.end, b" hole end;")?;
-    if or(or(marks.inside, marks.mode), or(marks.manual, marks.end)) {
-        say(out, b"\n")
-    } else {
-        say(out, b" none\n")
-    }
+    let Marks {
+        inside,
+        mode,
+        manual,
+        end,
+    } = marks;
+    print!(out; "marks:{}", mark_words(inside, " inside a radio hole;"))?;
+    print!(out; "{}", mark_words(mode, " mode change to report;"))?;
+    print!(out; "{}", mark_words(manual, " manual level change;"))?;
+    print!(out; "{}", mark_words(end, " hole end;"))?;
+    println!(out;
+        "{}",
+        mark_words(!((inside | mode) | (manual | end)), " none")
+    )
 }
 
 fn show_state(out: &impl Print, state: State) -> io::Result<()> {
-    let limits = state.limits;
-    let train = state.train;
-    let marks = state.marks;
-    show_limits(out, limits)?;
-    show_train(out, train)?;
-    show_marks(out, marks)?;
+    show_limits(out, state.limits)?;
+    show_train(out, state.train)?;
+    show_marks(out, state.marks)?;
     show_places(out, state)?;
-    show_last(out, state)
+    show_last(out, state.last)
 }
 
-fn refused(out: &impl Print, code: u8) -> io::Result<()> {
-    say(out, b"refused with ")?;
-    number(out, code as u64)?;
-    say(out, b": ")?;
-    image_refusal_words(out, code)?;
-    say(out, b"\n")
+// The refusal of an image.
+#[derive(Clone, Copy)]
+struct NotRead(u8);
+
+impl fmt::Display for NotRead {
+    fn fmt<W: fmt::Write>(&self, f: &mut fmt::Formatter<W>) -> fmt::Result {
+        write!(
+            f,
+            "refused with {}: {}",
+            self.0,
+            image_refusal_words(self.0)
+        )
+    }
 }
 
 // Bytes in hex.
 pub(crate) fn print_bytes(out: &impl Print, bytes: &[u8]) -> io::Result<()> {
-    let mut i = 0;
-    while i < bytes.len() {
-        print_byte(out, byte_at(bytes, i))?;
-        i += 1;
+    for byte in bytes {
+        print_byte(out, *byte)?;
     }
     Ok(())
 }
@@ -84,44 +86,37 @@ pub(crate) fn print_bytes(out: &impl Print, bytes: &[u8]) -> io::Result<()> {
 fn show_written(out: &impl Print, code: u8, bytes: &[u8]) -> io::Result<()> {
     if code == ACCEPTED {
         print_bytes(out, bytes)?;
-        say(out, b"\n")
+        println!(out; "")
     } else {
-        refused(out, code)
+        println!(out; "{}", NotRead(code))
     }
 }
 
 fn show_a2(out: &impl Print, state: State) -> io::Result<()> {
     let mut buffer = [0u8; 42];
     let stored = write_a2(state, &mut buffer);
-    say(out, b"A2: ")?;
+    print!(out; "A2: ")?;
     show_written(out, stored.code, &buffer)
 }
 
 fn show_a1(out: &impl Print, state: State) -> io::Result<()> {
     let mut buffer = [0u8; 37];
     let stored = write_a1(state, &mut buffer);
-    say(out, b"A1: ")?;
+    print!(out; "A1: ")?;
     show_written(out, stored.code, &buffer)
-}
-
-fn show_kind(out: &impl Print, kind: u8) -> io::Result<()> {
-    if kind == KIND_A1 {
-        say(out, b"image A1\n")
-    } else {
-        say(out, b"image A2\n")
-    }
 }
 
 fn show_bytes(out: &impl Print, bytes: &[u8]) -> io::Result<()> {
     let started = read_image(bytes);
     let state = started.state;
     if started.code == ACCEPTED {
-        show_kind(out, byte_at(bytes, 0))?;
+        let a1 = byte_at(bytes, 0) == KIND_A1;
+        println!(out; "image {}", if a1 { "A1" } else { "A2" })?;
         show_state(out, state)?;
         show_a2(out, state)?;
         show_a1(out, state)
     } else {
-        refused(out, started.code)
+        println!(out; "{}", NotRead(started.code))
     }
 }
 

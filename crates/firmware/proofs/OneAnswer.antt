@@ -1,8 +1,15 @@
 -- No second answer satisfies the contract of a public function: a line for each of this crate's, over the contract as the checker names it.
--- Proves: resheftal-step-once, resheftal-cold-start-once.
+-- Proves: minus-once, resheftal-step-once, resheftal-cold-start-once.
 use mathlib.Core.Path.{◌≡◌, sym, ◌∙◌}
+use Rattle.firmware.proofs.step.minus.Reads as minus
 use Rattle.firmware.proofs.step.resheftal_step.Reads as resheftal-step
 use Rattle.firmware.proofs.start.resheftal_cold_start.Reads as resheftal-cold-start
+
+pub minus-once : (κ : _) (code : _) (r₁ : _) (r₂ : _)
+    → minus.Post κ (code, tt) r₁ (code, tt)
+    → minus.Post κ (code, tt) r₂ (code, tt)
+    → r₁ ≡ r₂
+minus-once κ code r₁ r₂ p q = p.0 ∙ sym q.0
 
 pub resheftal-step-once : (κ : _) (image : _) (bytes : _) (actions : _) (r₁ : _) (r₂ : _)
     (image₁ : _) (image₂ : _) (actions₁ : _) (actions₂ : _)

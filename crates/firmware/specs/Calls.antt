@@ -1,10 +1,14 @@
 -- Request Q-14: what a call of the step from C answers, and what it leaves.
--- Defines: returned, Seen, seen_after.
+-- Defines: below_none, returned, Seen, seen_after.
 use Rattle.std.specs.Prelude.{ℕ, cond, List, eqb, ℤ, pos, neg_ℤ, length}
 use Rattle.wire.specs.Refusals.{accepted}
 use Rattle.unit.specs.OnRecords.{written}
 use Rattle.unit.specs.Steps.{Outcome}
 use Rattle.image.specs.Calls.{on_image, image_after}
+
+-- "minus the refusal"
+abbrev pub below_none : ℕ → ℤ
+below_none code = neg_ℤ (pos code)
 
 -- "the number of actions or minus the refusal"
 abbrev pub returned : Outcome → ℤ

@@ -1,16 +1,16 @@
 // One step on a stored image, as C calls it.
-ghost use Rattle.std.specs.Prelude.{◌≡◌, ◌≤◌, pos, neg_ℤ};
+ghost use Rattle.std.specs.Prelude.{◌≡◌, ◌≤◌, pos};
 ghost use Rattle.std.specs.Int.{w32};
 ghost use Rattle.std.proofs.Common.{SFits};
 ghost use Rattle.unit.specs.Forms.{most_actions};
-ghost use Rattle.firmware.specs.Calls.{seen_after};
+ghost use Rattle.firmware.specs.Calls.{below_none, seen_after};
 
 use image::call::step_image;
 use wire::refusal::ACCEPTED;
 
 // Minus the number of a refusal.
-pub(crate) fn minus(code: u8) -> i32
-    ensures { (result ≡ neg_ℤ (pos code)) × SFits w32 (neg_ℤ (pos code)) }
+pub fn minus(code: u8) -> i32
+    ensures { (result ≡ below_none code) × SFits w32 (below_none code) }
 {
     0 - code as i32
 }

@@ -3,7 +3,7 @@
 use mathlib.Core.Bool.{Bool, false, ◌&&◌}
 use Rattle.record.specs.Partners.{same_partner}
 use Rattle.record.specs.declared.partner.Partner.{Partner}
-use Rattle.record.specs.declared.event.Reading.{Reading}
+use Rattle.record.specs.Readings.{Reading}
 use Rattle.unit.specs.Standings.{by_concern, concern_of}
 use Rattle.unit.specs.declared.last.Last.{Last}
 use Rattle.unit.specs.declared.last.Last.TheVariants.{Unknown}

@@ -24,10 +24,10 @@ use Rattle.record.specs.declared.event.PartnerEvent.{PartnerEvent}
 use Rattle.record.specs.declared.event.PartnerEvent.TheVariants.{Drop, Up, Loss, Timeout, Version, Ended}
 use Rattle.record.specs.declared.event.Event.{Event}
 use Rattle.record.specs.declared.event.Event.TheVariants.{Level, Mission, Mode, Hole, Order, EndAll, Call, Named}
-use Rattle.record.specs.declared.event.Reading.{Reading}
-use Rattle.record.specs.declared.event.Reading.TheVariants.{Meant, Refused}
-use Rattle.record.specs.declared.take.Taken.TheVariants as taking
-use Rattle.record.specs.declared.take.Taken.TheVariants.{Whole, Stopped}
+use Rattle.record.specs.Readings.{Reading}
+use Rattle.record.specs.Readings.{Meant, Refused}
+use Rattle.record.specs.Takes as taking
+use Rattle.record.specs.Takes.{Whole, Stopped}
 use Rattle.place.specs.Places.{phase_number, tries, tries_ok, phase_ok, fits_incoming}
 use Rattle.place.specs.Table.{not_ending, version_of}
 use Rattle.place.specs.Turns.{own_numbers, on_next, first_tries, afresh, NextSound, SeatOf}
@@ -299,7 +299,7 @@ ranged-means P r e = ((λ h. h), (λ h. h))
 pub taken_ok-means : (log : List ℕ) (k : ℕ) (r : Reading)
     → (TakenOk log (Whole k r) ↔ ((1 ≤ k) × (k ≤ length log) × (r ≡ reading (take k log))))
     × (TakenOk log (Stopped k) ↔ ((k ≡ 0) ⊎ ((k ≡ 2) ⊎ (k ≡ 3))))
-    × (TakenOk log (taking.Refused k) ↔ ((k ≡ 12) × (1_048_576 < length log)))
+    × (TakenOk log (taking.Overlong k) ↔ ((k ≡ 12) × (1_048_576 < length log)))
 taken_ok-means log k r = (((λ h. h), (λ h. h)), ((λ h. h), (λ h. h)), ((λ h. h), (λ h. h)))
 
 -- "that is not Ending": every phase but the fifth

@@ -14,7 +14,7 @@ use Rattle.record.specs.Records.{reading}
 use Rattle.record.specs.declared.event.PartnerEvent.{PartnerEvent}
 use Rattle.record.specs.declared.event.PartnerEvent.TheVariants.{Drop, Up, Loss, Timeout, Version, Ended}
 use Rattle.record.specs.declared.event.Event.TheVariants.{Named}
-use Rattle.record.specs.declared.event.Reading.TheVariants.{Meant}
+use Rattle.record.specs.Readings.{Meant}
 use Rattle.wire.specs.Refusals.{accepted, bad_limits}
 use Rattle.wire.proofs.Tests.{and_both}
 use Rattle.place.specs.Places.{most_tries, tries, vacant, seat, phase_ok, fits_incoming, fits}

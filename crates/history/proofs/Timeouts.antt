@@ -14,8 +14,8 @@ use Rattle.record.specs.declared.event.PartnerEvent.{PartnerEvent}
 use Rattle.record.specs.declared.event.PartnerEvent.TheVariants.{Drop, Up, Loss, Timeout, Version, Ended}
 use Rattle.record.specs.declared.event.Event.{Event}
 use Rattle.record.specs.declared.event.Event.TheVariants.{Level, Mission, Mode, Hole, Order, EndAll, Call, Named}
-use Rattle.record.specs.declared.event.Reading.{Reading}
-use Rattle.record.specs.declared.event.Reading.TheVariants.{Meant, Refused}
+use Rattle.record.specs.Readings.{Reading}
+use Rattle.record.specs.Readings.{Meant, Refused}
 use Rattle.wire.proofs.Tests.{and_left, and_right, cond-holds, true-false}
 use Rattle.record.proofs.Partners.{same_refl, same-eq}
 use Rattle.place.specs.Places.{vacant, tries}

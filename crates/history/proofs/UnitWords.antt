@@ -22,11 +22,11 @@ use Rattle.record.specs.declared.event.Cause.{Cause}
 use Rattle.record.specs.declared.event.PartnerEvent.{PartnerEvent}
 use Rattle.record.specs.declared.event.Event.{Event}
 use Rattle.record.specs.declared.event.Event.TheVariants.{Level, Mission, Mode, Hole, Order, EndAll, Call, Named}
-use Rattle.record.specs.declared.event.Reading.{Reading}
-use Rattle.record.specs.declared.event.Reading.TheVariants.{Meant, Refused}
-use Rattle.record.specs.declared.take.Taken.{Taken}
-use Rattle.record.specs.declared.take.Taken.TheVariants as taking
-use Rattle.record.specs.declared.take.Taken.TheVariants.{Whole, Stopped}
+use Rattle.record.specs.Readings.{Reading}
+use Rattle.record.specs.Readings.{Meant, Refused}
+use Rattle.record.specs.Takes.{Taken}
+use Rattle.record.specs.Takes as taking
+use Rattle.record.specs.Takes.{Whole, Stopped}
 use Rattle.record.proofs.Partners.{same_refl, same-eq}
 use Rattle.record.proofs.Bodies.{known-means}
 use Rattle.place.specs.Places.{phase_number, vacant, seat, is_free, held_phase, holds}
@@ -342,7 +342,7 @@ pub course-more : (s : State) (log : List ℕ)
     → course (suc budget) s log
     ≡ applies (take k log) (on_record s (take k log) 20) (course budget (on_record s (take k log) 20).state (drop k log)))
     × ((budget stop : ℕ) → taken log ≡ Stopped stop → course (suc budget) s log ≡ stops stop)
-    × ((budget r : ℕ) → taken log ≡ taking.Refused r → course (suc budget) s log ≡ stops r)
+    × ((budget r : ℕ) → taken log ≡ taking.Overlong r → course (suc budget) s log ≡ stops r)
 unfolding course
 course-more s log =
     (refl, (λ kind rest. refl), (λ budget k r. ap (on budget)), (λ budget stop. ap (on budget)), (λ budget r. ap (on budget)))
@@ -360,7 +360,7 @@ pub steps-more : (s : State) (log : List ℕ)
     → taken log ≡ Whole k r
     → steps (suc budget) s log ≡ on_record s (take k log) 20 ∷ steps budget (on_record s (take k log) 20).state (drop k log))
     × ((budget stop : ℕ) → taken log ≡ Stopped stop → steps (suc budget) s log ≡ [])
-    × ((budget r : ℕ) → taken log ≡ taking.Refused r → steps (suc budget) s log ≡ [])
+    × ((budget r : ℕ) → taken log ≡ taking.Overlong r → steps (suc budget) s log ≡ [])
 unfolding course steps_of
 steps-more s log =
     let by = course-more s log in (

@@ -6,7 +6,7 @@ use Rattle.record.specs.Records.{reading}
 use Rattle.record.specs.declared.partner.Partner.{Partner}
 use Rattle.record.specs.declared.event.PartnerEvent.{PartnerEvent}
 use Rattle.record.specs.declared.event.Event.TheVariants.{Named}
-use Rattle.record.specs.declared.event.Reading.TheVariants.{Meant}
+use Rattle.record.specs.Readings.{Meant}
 use Rattle.unit.specs.Steps.{Outcome}
 use Rattle.unit.specs.Kept.{is_version}
 use Rattle.wire.specs.Bytes.{as_bit}

@@ -1,18 +1,17 @@
 -- Reading an image as the code does it: byte after byte, and by what its tests showed.
--- Defines: CopiedTo.
--- Proves: phase_of-other, place-free, place-held, last_none, last_some, same_end, same_more, same-other, same-lengths, read-a2-empty,
+-- Proves: phase_of-other, place-free, place-held, last_none, last_some, same-pointwise, read-a2-empty,
 -- read-a2-unknown, read-a2-wrong, read-a2-whole, read-empty, read-other, read-a1-wrong, read-a1-whole, body-by, part-all,
--- copy_more, copy-length, copy-end.
+-- copy-end.
 use mathlib.Core.Path.{◌≡◌, refl, sym, ap, ap₂, ◌∙◌}
-use mathlib.Core.Bool.{Bool, true, false, cond, ◌&&◌}
+use mathlib.Core.Bool.{Bool, cond, ◌&&◌}
 use mathlib.Core.List.{List, [], ◌∷◌, ◌++◌}
-use Prim.Native.Nat.{ℕ, zero, suc, ◌+◌, ◌-◌, ◌≤◌, ◌<◌}
-use native.Mathlib.Nat.{add-zero, zero-add}
-use native.Mathlib.Numerals.{add-one}
+use Prim.Native.Nat.{ℕ, zero, suc, ◌+◌, ◌-◌}
+use native.Mathlib.Nat.{add-zero}
 use native.Mathlib.Omega.{arith}
 use lib.Dec.{eqb}
-use lib.ListN.{length, get_or, set, take, drop, replicate, drop_of_length-le, length-drop}
-use lib.Seq.{get_or-drop, drop-cons, take_all, paste, paste-suc, length-paste}
+use lib.Pointwise.{pointwise}
+use lib.ListN.{length, get_or, set, take, drop, replicate, length-drop}
+use lib.Seq.{get_or-drop, take_all}
 use lib.Seq as in-lists
 use borrow.Author.Tests.{eq-eqb, ne_eqb}
 use Rattle.wire.specs.Bytes.{byte}
@@ -30,7 +29,6 @@ use Rattle.image.specs.Images.{old_body_size}
 use Rattle.image.specs.Bodies.{last_from}
 use Rattle.image.specs.Images.{state_in, same_bytes, read_refused, is_body_of, tail_of_a1, read_a2, read_image}
 use Rattle.image.specs.Bodies.{read_body}
-use Rattle.image.proofs.Bytes.{bytes_same}
 
 -- a number of none of the first four phases
 pub phase_of-other : (number tries : ℕ)
@@ -98,33 +96,13 @@ module _ (s : List ℕ) (flag : ℕ) (read : flag ≡ get_or s last_from 0) wher
       (ap (λ t. cond t Unknown (Known (byte b 1) (byte b 2) (byte b 3)))
       (ne_eqb (byte b 0) 0 (λ z. some (read ∙ sym (byte-here s last_from) ∙ z))))
 
--- bytes compared one after the other
-module _ (a b : List ℕ) (i : ℕ) (so_far : same_bytes a b ≡ same_bytes (drop i a) (drop i b)) where
-  pub same_end : length a ≤ i → length b ≤ i → true ≡ same_bytes a b
-  unfolding same_bytes
-  same_end la lb = sym (so_far ∙ ap₂ same_bytes (drop_of_length-le a la) (drop_of_length-le b lb))
-
-  module _ (la : i < length a) (lb : i < length b) where
-    at-hand : same_bytes a b ≡ (eqb (get_or a i 0) (get_or b i 0) && same_bytes (drop (suc i) a) (drop (suc i) b))
-    unfolding same_bytes
-    at-hand = so_far ∙ ap₂ same_bytes (drop-cons a i 0 la) (drop-cons b i 0 lb)
-
-    pub same_more : get_or a i 0 ≡ get_or b i 0 → same_bytes a b ≡ same_bytes (drop (i + 1) a) (drop (i + 1) b)
-    same_more e =
-        at-hand
-        ∙ ap (λ t. t && same_bytes (drop (suc i) a) (drop (suc i) b)) (eq-eqb (get_or a i 0) (get_or b i 0) e)
-        ∙ ap (λ k. same_bytes (drop k a) (drop k b)) (sym (add-one i))
-
-    pub same-other : (get_or a i 0 ≡ get_or b i 0 → ⊥) → false ≡ same_bytes a b
-    same-other e =
-        sym (at-hand ∙ ap (λ t. t && same_bytes (drop (suc i) a) (drop (suc i) b)) (ne_eqb (get_or a i 0) (get_or b i 0) e))
-
-pub same-lengths : (a b : List ℕ) → (length a ≡ length b → ⊥) → false ≡ same_bytes a b
-same-lengths a b other = by (same_bytes a b) refl
-  where
-    by : (t : Bool) → same_bytes a b ≡ t → false ≡ same_bytes a b
-    by true e = absurd (other (ap length (bytes_same a b e)))
-    by false e = sym e
+-- slices compared byte after byte
+pub same-pointwise : (a b : List ℕ) → pointwise eqb a b ≡ same_bytes a b
+unfolding same_bytes
+same-pointwise [] [] = refl
+same-pointwise [] (y ∷ ys) = refl
+same-pointwise (x ∷ xs) [] = refl
+same-pointwise (x ∷ xs) (y ∷ ys) = ap (◌&&◌ (eqb x y)) (same-pointwise xs ys)
 
 -- the refusals of a reading, and its body
 pub read-a2-empty : (bytes : List ℕ) → length bytes ≡ 0 → read_refused wrong_length ≡ read_a2 bytes
@@ -203,21 +181,7 @@ body-by body s good own of-body test written =
 pub part-all : (l : List ℕ) (a : ℕ) → take (length l - a) (drop a l) ≡ drop a l
 part-all l a = take_all (length l - a) (drop a l) (simp length-drop (omega arith))
 
--- the body of an image A1, copied byte after byte to the front of 41 zeros, and the tries after it
-abbrev pub CopiedTo : List ℕ → ℕ → List ℕ
-CopiedTo body i = paste (replicate 41 0) 0 body i
-
-module _ (body : List ℕ) (long : length body ≡ old_body_size) where
-  pub copy_more : (i : ℕ) → i < old_body_size → set (CopiedTo body i) i (get_or body i 0) ≡ CopiedTo body (i + 1)
-  copy_more i below =
-      ap (λ k. set (CopiedTo body i) k (get_or body i 0)) (sym (zero-add i))
-      ∙ paste-suc (replicate 41 0) 0 body i 0 (omega arith) (omega (arith, long))
-      ∙ ap (CopiedTo body) (sym (add-one i))
-
-  pub copy-length : (i : ℕ) → i ≤ old_body_size → length (CopiedTo body i) ≡ 41
-  copy-length i below = length-paste (replicate 41 0) 0 body i (omega arith) (omega (arith, long))
-
-  pub copy-end : set (CopiedTo body old_body_size) old_body_size fleet_tries ≡ body ++ tail_of_a1
-  copy-end =
-      ap (λ l. set (l ++ replicate 5 0) old_body_size fleet_tries) (take_all old_body_size body (omega (arith, long)))
-      ∙ in-lists.set_at body 0 (replicate 4 0) fleet_tries old_body_size long
+-- the body of an image A1 at the front of 41 bytes, and the tries after it
+pub copy-end : (body : List ℕ) → length body ≡ old_body_size → set (body ++ replicate 5 0) old_body_size fleet_tries ≡ body
+    ++ tail_of_a1
+copy-end body long = in-lists.set_at body 0 (replicate 4 0) fleet_tries old_body_size long

@@ -5,7 +5,7 @@ ghost use Rattle.image.specs.Calls.{on_image, image_after, actions_after, called
 use crate::read::read_a2;
 use crate::write::put_image;
 use unit::bytes::ACTION_ROOM;
-use wire::refusal::{ACCEPTED, NO_ROOM};
+use wire::refusal::{ACCEPTED, Refusal};
 
 // What a step on an image answers: 0 or the number of the refusal, and how many actions were written.
 #[derive(Clone, Copy)]
@@ -26,7 +26,7 @@ pub fn step_image(image: &mut [u8], bytes: &[u8], actions: &mut [u8]) -> Called
 {
     if actions.len() < ACTION_ROOM {
         return Called {
-            code: NO_ROOM,
+            code: Refusal::NoRoom.number(),
             count: 0,
         };
     }

@@ -2,6 +2,7 @@
 ghost use Rattle.std.specs.Prelude.{◌≡◌, ◌+◌, ◌*◌, ◌≤◌, ◌<◌, [], ◌∷◌, ◌++◌};
 ghost use Rattle.std.specs.Prelude.{eqb, length, take, drop, replicate};
 ghost use Rattle.wire.specs.Bytes.{flag, as_bit};
+ghost use Rattle.wire.specs.Refusals.{number};
 ghost use Rattle.place.specs.Places.{phase_number, tries, direction_number, seat};
 ghost use Rattle.unit.specs.States.{place_count};
 ghost use Rattle.image.specs.Images.{place_size, place_bytes, head_bytes, last_bytes, whole_bytes, phase_of, direction_of, place_in};
@@ -16,9 +17,9 @@ use record::partner::Partner;
 use unit::last::Last;
 use unit::start::{Started, cold_start};
 use unit::state::{Marks, PLACES, State, Train};
-use wire::byte::{byte_at, long};
+use wire::byte::byte_at;
 use wire::join::{and, or};
-use wire::refusal::{ACCEPTED, NOT_SOUND, UNKNOWN_KIND, WRONG_LENGTH};
+use wire::refusal::{ACCEPTED, Refusal};
 
 // The number of the phase Open, and the highest phase and direction.
 const OPEN: u8 = 3;
@@ -93,8 +94,8 @@ fn train_in(s: &[u8]) -> Train
     ensures { result ≡ (state_in s.now).train }
 {
     Train {
-        level: long(byte_at(s, 2)),
-        mission: long(byte_at(s, 3)),
+        level: u64::from(byte_at(s, 2)),
+        mission: u64::from(byte_at(s, 3)),
     }
 }
 
@@ -145,32 +146,21 @@ fn state_in(body: &[u8]) -> State
 pub fn same(a: &[u8], b: &[u8]) -> bool
     ensures { result ≡ same_bytes a.now b.now }
 {
-    if a.len() == b.len() {
-        let mut i = 0;
-        loop {
-            if i >= a.len() {
-                break true;
-            }
-            if a[i] != b[i] {
-                break false;
-            }
-            i += 1;
-        }
-    } else {
-        false
-    }
+    a == b
 }
 
-fn refused(code: u8) -> Started
-    ensures { result ≡ read_refused code }
+fn refused(refusal: Refusal) -> Started
+    ensures { result ≡ read_refused (number refusal) }
 {
     let start = cold_start(Limits {
         lowest: 0,
         highest: 0,
         tries: FLEET_TRIES,
     });
-    let state = start.state;
-    Started { code, state }
+    Started {
+        code: refusal.number(),
+        state: start.state,
+    }
 }
 
 // Whether a free place's bytes after the phase are the ones that it writes.
@@ -218,19 +208,12 @@ fn places_spelt(body: &[u8]) -> bool
     ensures { result ≡ same_bytes (places_bytes (places_in place_count (drop head_size body.now)))
         (take (place_count * place_size) (drop head_size body.now)) }
 {
-    let mut i = 0;
-    let mut at = HEAD_SIZE;
-    loop {
-        if i >= PLACES {
-            break true;
-        }
-        if place_spelt(body, at) {
-            i += 1;
-            at += PLACE_SIZE;
-        } else {
-            break false;
+    for i in 0..PLACES {
+        if !place_spelt(body, HEAD_SIZE + PLACE_SIZE * i) {
+            return false;
         }
     }
+    true
 }
 
 // Whether a byte is the one that its mark writes.
@@ -261,11 +244,7 @@ fn last_spelt(body: &[u8], last: Last) -> bool
             and(body[37] == 0, body[38] == 0),
             and(body[39] == 0, body[40] == 0),
         ),
-        Last::Known {
-            high: _,
-            middle: _,
-            low: _,
-        } => body[37] == 1,
+        Last::Known { .. } => body[37] == 1,
     }
 }
 
@@ -274,16 +253,13 @@ fn is_spelt(body: &[u8], state: State) -> bool
     requires { (length body.now ≡ 41) × (state ≡ state_in body.now) }
     ensures { result ≡ same_bytes (whole_bytes (state_in body.now)) body.now }
 {
-    let last = state.last;
-    if marks_spelt(body) {
-        if last_spelt(body, last) {
-            places_spelt(body)
-        } else {
-            false
-        }
-    } else {
-        false
+    if !marks_spelt(body) {
+        return false;
     }
+    if !last_spelt(body, state.last) {
+        return false;
+    }
+    places_spelt(body)
 }
 
 // The state of the 41 bytes of an image A2 after the kind; refusal 11 where its content is not sound.
@@ -292,17 +268,15 @@ fn read_body(body: &[u8]) -> Started
     ensures { result ≡ read_body body.now }
 {
     let state = state_in(body);
-    if state.is_sound() {
-        if is_spelt(body, state) {
-            Started {
-                code: ACCEPTED,
-                state,
-            }
-        } else {
-            refused(NOT_SOUND)
-        }
-    } else {
-        refused(NOT_SOUND)
+    if !state.is_sound() {
+        return refused(Refusal::NotSound);
+    }
+    if !is_spelt(body, state) {
+        return refused(Refusal::NotSound);
+    }
+    Started {
+        code: ACCEPTED,
+        state,
     }
 }
 
@@ -312,11 +286,7 @@ fn read_body_a1(body: &[u8]) -> Started
     ensures { result ≡ read_body (body.now ++ tail_of_a1) }
 {
     let mut whole = [0u8; 41];
-    let mut i = 0;
-    while i < 36 {
-        whole[i] = body[i];
-        i += 1;
-    }
+    whole[..36].copy_from_slice(body);
     whole[36] = FLEET_TRIES;
     read_body(&whole)
 }
@@ -327,13 +297,13 @@ pub fn read_a2(bytes: &[u8]) -> Started
     ensures { result ≡ read_a2 bytes.now }
 {
     if bytes.len() == 0 {
-        return refused(WRONG_LENGTH);
+        return refused(Refusal::WrongLength);
     }
     if bytes[0] != KIND_A2 {
-        return refused(UNKNOWN_KIND);
+        return refused(Refusal::UnknownKind);
     }
     if bytes.len() != SIZE_A2 {
-        return refused(WRONG_LENGTH);
+        return refused(Refusal::WrongLength);
     }
     read_body(&bytes[1..])
 }
@@ -344,13 +314,13 @@ pub fn read_image(bytes: &[u8]) -> Started
     ensures { result ≡ read_image bytes.now }
 {
     if bytes.len() == 0 {
-        return refused(WRONG_LENGTH);
+        return refused(Refusal::WrongLength);
     }
     if bytes[0] != KIND_A1 {
         return read_a2(bytes);
     }
     if bytes.len() != SIZE_A1 {
-        return refused(WRONG_LENGTH);
+        return refused(Refusal::WrongLength);
     }
     read_body_a1(&bytes[1..])
 }

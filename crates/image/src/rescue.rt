@@ -9,7 +9,7 @@ ghost use Rattle.image.specs.Rescue.{within, is_place_of, is_last_of, field_offs
 ghost use Rattle.image.specs.Rescue.{rescue, rescued};
 ghost use Rattle.image.specs.Mends.{head_fields, tries_at, Mendable, Field, Cleared, MendedTo};
 ghost use Rattle.wire.specs.Bytes.{byte};
-ghost use Rattle.wire.specs.Refusals.{accepted};
+ghost use Rattle.wire.specs.Refusals.{accepted, number};
 
 use crate::layout::{KIND_A2, LAST_AT, LAST_SIZE, PLACE_SIZE, PLACES_AT, SIZE_A2};
 use crate::read::{HIGHEST_MARK, held_of, limits_in, mark_spelt, place_spelt};
@@ -18,7 +18,7 @@ use record::partner::{Partner, RBC};
 use record::read::{HIGHEST_LEVEL, HIGHEST_MISSION};
 use unit::state::{PLACES, limits_ok};
 use wire::join::{and, negated};
-use wire::refusal::{ACCEPTED, NOT_SOUND, UNKNOWN_KIND, WRONG_LENGTH};
+use wire::refusal::{ACCEPTED, Refusal};
 
 // The first offsets of the places and of the last known RBC, as they are listed.
 const FIRST_PLACE: u8 = PLACES_AT as u8;
@@ -52,20 +52,14 @@ pub fn size_of(at: usize) -> usize
 }
 
 // The answer that lists nothing.
-fn nothing(code: u8) -> Rescued
-    ensures { result ≡ listing code [] }
+fn nothing(refusal: Refusal) -> Rescued
+    ensures { result ≡ listing (number refusal) [] }
 {
     Rescued {
-        code,
+        code: refusal.number(),
         fields: [0; FIELDS],
         count: 0,
     }
-}
-
-fn wide(n: u8) -> usize
-    ensures { result ≡ n }
-{
-    n as usize
 }
 
 // Lists a field after the others, and answers how many are listed then.
@@ -85,7 +79,7 @@ fn mend_byte(image: &mut [u8], at: u8, good: bool, fields: &mut [u8], count: usi
     if good {
         return count;
     }
-    image[wide(at)] = 0;
+    image[usize::from(at)] = 0;
     list_field(fields, count, at)
 }
 
@@ -97,7 +91,7 @@ fn mend_place(image: &mut [u8], at: u8, good: bool, fields: &mut [u8], count: us
     if good {
         return count;
     }
-    let from = wide(at);
+    let from = usize::from(at);
     image[from] = 0;
     image[from + 1] = 0;
     image[from + 2] = 0;
@@ -207,7 +201,7 @@ fn mend_number(image: &mut [u8], at: u8, most: u8, fields: &mut [u8], count: usi
         → MendedTo old n at image.old fields.old count
         → MendedTo old (n + 1) (at + 1) image.new fields.new result }
 {
-    let good = image[wide(at)] <= most;
+    let good = image[usize::from(at)] <= most;
     mend_byte(image, at, good, fields, count)
 }
 
@@ -246,13 +240,10 @@ fn mend_places(image: &mut [u8], limits: Limits, fields: &mut [u8], count: usize
         → MendedTo old (head_fields + place_count) tries_at image.new fields.new result }
 {
     let mut listed = count;
-    let mut i = 0;
-    let mut at = FIRST_PLACE;
-    while i < PLACES {
-        let good = keeps_place(image, wide(at), limits);
+    for i in 0..PLACES {
+        let at = FIRST_PLACE + NEXT_PLACE * i as u8;
+        let good = keeps_place(image, usize::from(at), limits);
         listed = mend_place(image, at, good, fields, listed);
-        i += 1;
-        at += NEXT_PLACE;
     }
     listed
 }
@@ -292,18 +283,18 @@ pub fn rescue(image: &mut [u8]) -> Rescued
         × (image.new ≡ rescued image.old) }
 {
     if image.len() == 0 {
-        return nothing(WRONG_LENGTH);
+        return nothing(Refusal::WrongLength);
     }
     if image[0] != KIND_A2 {
-        return nothing(UNKNOWN_KIND);
+        return nothing(Refusal::UnknownKind);
     }
     if image.len() != SIZE_A2 {
-        return nothing(WRONG_LENGTH);
+        return nothing(Refusal::WrongLength);
     }
     let limits = limits_in(&image[1..]);
     if limits_ok(limits) {
         mend(image, limits)
     } else {
-        nothing(NOT_SOUND)
+        nothing(Refusal::NotSound)
     }
 }

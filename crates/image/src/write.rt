@@ -4,6 +4,7 @@ ghost use Rattle.std.proofs.lemmas.List.Edits.{sets};
 ghost use Rattle.unit.specs.States.{sound};
 ghost use Rattle.image.specs.Images.{place_bytes, head_bytes, body_bytes, image_a2};
 ghost use Rattle.wire.specs.Bytes.{as_bit};
+ghost use Rattle.wire.specs.Refusals.{number};
 ghost use Rattle.image.specs.Images.{fits_a1, stored, write_a2, imaged_a2, write_a1, imaged_a1};
 ghost use Rattle.image.specs.Bodies.{tail_bytes};
 
@@ -13,7 +14,7 @@ use place::place::{Holding, Place};
 use record::partner::Partner;
 use unit::last::Last;
 use unit::state::{PLACES, State};
-use wire::refusal::{ACCEPTED, NO_ROOM, NOT_IN_A1, NOT_SOUND};
+use wire::refusal::{ACCEPTED, Refusal};
 
 // What writing an image answers: 0 or the number of the refusal, the state as given, and the bytes written.
 #[derive(Clone, Copy)]
@@ -34,7 +35,7 @@ fn narrow(x: u64) -> u8
 fn mark_byte(mark: bool) -> u8
     ensures { result ≡ as_bit mark }
 {
-    if mark { 1 } else { 0 }
+    u8::from(mark)
 }
 
 // Writes the kind and the eight bytes before the places.
@@ -115,13 +116,8 @@ fn put_body(s: &mut [u8], kind: u8, state: State)
     ensures { s.new ≡ (kind ∷ body_bytes state) ++ drop 37 s.old }
 {
     put_head(s, kind, state);
-    let mut i = 0;
-    let mut at = PLACES_AT;
-    while i < PLACES {
-        let place = state.places[i];
-        put_place(s, at, place);
-        at += PLACE_SIZE;
-        i += 1;
+    for i in 0..PLACES {
+        put_place(s, PLACES_AT + PLACE_SIZE * i, state.places[i]);
     }
 }
 
@@ -160,11 +156,11 @@ pub(crate) fn put_image(s: &mut [u8], state: State)
 }
 
 // What a refused write answers: the state as given, no byte written.
-fn refused(code: u8, state: State) -> Stored
-    ensures { result ≡ stored code 0 state }
+fn refused(refusal: Refusal, state: State) -> Stored
+    ensures { result ≡ stored (number refusal) 0 state }
 {
     Stored {
-        code,
+        code: refusal.number(),
         state,
         count: 0,
     }
@@ -174,15 +170,9 @@ fn refused(code: u8, state: State) -> Stored
 fn fits_a1(state: State) -> bool
     ensures { result ≡ fits_a1 state }
 {
-    let limits = state.limits;
-    let last = state.last;
-    match last {
-        Last::Unknown => limits.tries == FLEET_TRIES,
-        Last::Known {
-            high: _,
-            middle: _,
-            low: _,
-        } => false,
+    match state.last {
+        Last::Unknown => state.limits.tries == FLEET_TRIES,
+        Last::Known { .. } => false,
     }
 }
 
@@ -193,7 +183,7 @@ pub fn write_a2(state: State, buffer: &mut [u8]) -> Stored
         × (buffer.new ≡ imaged_a2 state buffer.old) }
 {
     if buffer.len() < SIZE_A2 {
-        return refused(NO_ROOM, state);
+        return refused(Refusal::NoRoom, state);
     }
     if state.is_sound() {
         put_image(buffer, state);
@@ -203,7 +193,7 @@ pub fn write_a2(state: State, buffer: &mut [u8]) -> Stored
             count: SIZE_A2,
         }
     } else {
-        refused(NOT_SOUND, state)
+        refused(Refusal::NotSound, state)
     }
 }
 
@@ -215,7 +205,7 @@ pub fn write_a1(state: State, buffer: &mut [u8]) -> Stored
         × (buffer.new ≡ imaged_a1 state buffer.old) }
 {
     if buffer.len() < SIZE_A1 {
-        return refused(NO_ROOM, state);
+        return refused(Refusal::NoRoom, state);
     }
     if state.is_sound() {
         if fits_a1(state) {
@@ -226,9 +216,9 @@ pub fn write_a1(state: State, buffer: &mut [u8]) -> Stored
                 count: SIZE_A1,
             }
         } else {
-            refused(NOT_IN_A1, state)
+            refused(Refusal::NotInA1, state)
         }
     } else {
-        refused(NOT_SOUND, state)
+        refused(Refusal::NotSound, state)
     }
 }

@@ -11,8 +11,8 @@ use lib.Seq.{take-append_seam, drop-append_seam}
 use Rattle.wire.specs.Blocks.{blocks}
 use Rattle.wire.proofs.Tests.{and_both}
 use Rattle.record.specs.Takes.{longest_log, take_one, on_taken}
-use Rattle.record.specs.declared.take.Taken.{Taken}
-use Rattle.record.specs.declared.take.Taken.TheVariants.{Stopped}
+use Rattle.record.specs.Takes.{Taken}
+use Rattle.record.specs.Takes.{Stopped}
 use Rattle.record.proofs.Takes.{taken-short}
 use Rattle.unit.specs.Steps.{Outcome}
 use Rattle.unit.specs.OnRecords.{action_room, on_record}

@@ -10,9 +10,9 @@ use lib.ListN.{length, take, drop, length-drop}
 use lib.Seq.{drop-drop, length-take-le}
 use Rattle.record.specs.Takes.{longest_log, take_one, taken, on_taken}
 use Rattle.record.specs.TakeWords.{TakenOk}
-use Rattle.record.specs.declared.event.Reading.{Reading}
-use Rattle.record.specs.declared.take.Taken.{Taken}
-use Rattle.record.specs.declared.take.Taken.TheVariants.{Whole, Stopped, Refused}
+use Rattle.record.specs.Readings.{Reading}
+use Rattle.record.specs.Takes.{Taken}
+use Rattle.record.specs.Takes.{Whole, Stopped, Overlong}
 use Rattle.record.proofs.Takes.{taken-short, taken-ok}
 use Rattle.unit.specs.Steps.{Outcome}
 use Rattle.unit.specs.OnRecords.{action_room, on_record}
@@ -41,7 +41,7 @@ onward-same m n s rest alike (Whole k r) ok =
     let o = on_record s (take k rest) action_room in
     ap (applies (take k rest) o) (alike k o.state ok.0)
 onward-same m n s rest alike (Stopped stop) ok = refl
-onward-same m n s rest alike (Refused r) ok = refl
+onward-same m n s rest alike (Overlong r) ok = refl
 
 -- a budget of at least as many records as there are bytes is not used up: a larger one makes no difference
 course-enough : (m n : ℕ) (s : State) (rest : List ℕ)
@@ -71,7 +71,7 @@ module _ (s : State) (rest : List ℕ) (short : length rest ≤ longest_log) whe
   ahead_more = course-enough (length rest) more s rest (omega arith) (omega arith)
 
   -- at a stop nothing more is read
-  ahead-stop : (stop : ℕ) → (take_one rest ≡ Stopped stop) ⊎ (take_one rest ≡ Refused stop) → ahead s rest ≡ stops stop
+  ahead-stop : (stop : ℕ) → (take_one rest ≡ Stopped stop) ⊎ (take_one rest ≡ Overlong stop) → ahead s rest ≡ stops stop
   unfolding course
   ahead-stop stop (inl e) = ahead_more ∙ rw (taken-short rest short ∙ e) refl
   ahead-stop stop (inr e) = ahead_more ∙ rw (taken-short rest short ∙ e) refl
@@ -97,7 +97,7 @@ module _ (log : List ℕ) (short : length log ≤ longest_log) (s : State) (at :
   rest-short = simp length-drop (omega arith)
 
   pub stop-ahead : (stop : ℕ)
-      → (take_one (drop at log) ≡ Stopped stop) ⊎ (take_one (drop at log) ≡ Refused stop)
+      → (take_one (drop at log) ≡ Stopped stop) ⊎ (take_one (drop at log) ≡ Overlong stop)
       → ahead s (drop at log) ≡ stops stop
   stop-ahead = ahead-stop s (drop at log) rest-short
 

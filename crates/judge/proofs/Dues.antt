@@ -1,21 +1,22 @@
 -- The due records one after the other, as the code passes them: the answer, and then the actions of a buffer.
 -- Defines: Passed.
--- Proves: due-met, due-fails, due-fits, dues-follow, actions-written, passed_none, passed-end, passed-more, passed-fails.
+-- Proves: due-met, due-fails, due-fits, dues-follow, actions-sent, passed-end, passed-more, passed-fails.
 use mathlib.Core.Path.{◌≡◌, refl, sym, ap, ap₂, ◌∙◌}
 use mathlib.Core.Bool.{true, false}
-use mathlib.Core.List.{List, [], ◌∷◌, ◌++◌, map}
-use Prim.Native.Nat.{ℕ, suc, ◌+◌, ◌*◌, ◌-◌, ◌≤◌, ◌<◌}
+use mathlib.Core.List.{List, [], ◌∷◌, ◌++◌, map, append-nil}
+use Prim.Native.Nat.{ℕ, suc, ◌+◌, ◌*◌, ◌-◌, ◌/◌, ◌≤◌, ◌<◌}
 use native.Mathlib.Nat.{add-zero}
 use native.Mathlib.Omega.{arith}
 use lib.ListN.{length, drop, length-drop}
 use lib.Seq.{get_or-drop, drop-drop}
 use Rattle.wire.specs.Blocks.{blocks}
+use Rattle.wire.proofs.Blocks.{blocks-length}
 use Rattle.wire.proofs.Tests.{cond-case}
-use Rattle.unit.specs.OnRecords.{action_size, action_bytes}
+use Rattle.unit.specs.OnRecords.{action_size, bytes_of, action_bytes}
 use Rattle.unit.specs.declared.answer.Action.{Action}
 use Rattle.judge.specs.Sheets.{due_bytes}
 use Rattle.judge.specs.Judging.{compared, stands_at, is_right, point_at, dues_at}
-use Rattle.judge.specs.Buffers.{action_in, buffer_actions}
+use Rattle.judge.specs.Buffers.{action_in, buffer_actions, sent_actions}
 use Rattle.judge.specs.declared.due.Due.{Due}
 use Rattle.judge.specs.declared.due.Due.TheVariants.{AnEvent, TheAction}
 use Rattle.judge.specs.declared.due.Point.{Point}
@@ -54,10 +55,17 @@ dues-follow (d ∷ ds) sheet at =
     (λ fails. omega arith)
 
 -- the actions of a buffer into which they were written
-pub actions-written : (acts : List Action) (rest : List ℕ) → buffer_actions (length acts) (action_bytes acts ++ rest) ≡ acts
+actions-written : (acts : List Action) (rest : List ℕ) → buffer_actions (length acts) (action_bytes acts ++ rest) ≡ acts
 unfolding buffer_actions blocks
 actions-written [] rest = refl
 actions-written (a ∷ acts) rest = ap (◌∷◌ a) (actions-written acts rest)
+
+-- and of the part with their bytes alone
+pub actions-sent : (acts : List Action) → sent_actions (action_bytes acts) ≡ acts
+actions-sent acts =
+    let bytes = blocks-length bytes_of action_size (λ a. refl) acts in
+    let count : length (action_bytes acts) / action_size ≡ length acts = omega arith in
+    ap₂ buffer_actions count (sym (append-nil (action_bytes acts))) ∙ actions-written acts []
 
 -- the first i actions of a buffer are passed, and the next one is due at this offset
 module _ (sheet : List ℕ) (from : ℕ) (buffer : List ℕ) (count : ℕ) where
@@ -66,11 +74,6 @@ module _ (sheet : List ℕ) (from : ℕ) (buffer : List ℕ) (count : ℕ) where
       (i ≤ count)
       × (dues_at (map TheAction (buffer_actions count buffer)) sheet from
       ≡ dues_at (map TheAction (buffer_actions (count - i) (drop (action_size * i) buffer))) sheet at)
-
-  pub passed_none : Passed 0 from
-  passed_none =
-      let all : count ≡ count - 0 = omega arith in
-      (omega arith, ap (λ n. dues_at (map TheAction (buffer_actions n buffer)) sheet from) all)
 
   module _ (i at : ℕ) (passed : Passed i at) where
     pub passed-end : count ≤ i → point_at Right at AnEvent ≡ dues_at (map TheAction (buffer_actions count buffer)) sheet from

@@ -1,16 +1,22 @@
 -- The loop that writes a sheet: what is written and what is still to come stay the whole.
 -- Defines: Filling.
 -- Proves: filling-end, filling-room, filling-next.
-use mathlib.Core.Path.{◌≡◌, sym, ap, ap₂, ◌∙◌}
-use mathlib.Core.Logic.{◌⊎◌}
+use mathlib.Core.Path.{◌≡◌, refl, sym, ap, ap₂, ◌∙◌}
+use mathlib.Core.Logic.{◌⊎◌, inl}
 use mathlib.Core.List.{List, ◌∷◌, ◌++◌}
 use Prim.Native.Nat.{ℕ, ◌+◌, ◌*◌, ◌≤◌}
 use native.Mathlib.Omega.{arith}
 use lib.ListN.{length, take, drop, length-append}
 use lib.Seq.{sets, length-sets}
 use Rattle.record.specs.Takes.{longest_log, take_one}
-use Rattle.record.specs.declared.event.Reading.{Reading}
-use Rattle.record.specs.declared.take.Taken.TheVariants.{Whole, Stopped, Refused}
+use Rattle.std.specs.Prelude.{Result}
+use Rattle.wire.specs.declared.refusal.Refusal.{Refusal}
+use Rattle.record.specs.Readings.{Reading}
+use Rattle.record.specs.Stops.{stop_number, told_front}
+use Rattle.record.specs.declared.event.Event.{Event}
+use Rattle.record.specs.declared.take.Front.{Front}
+use Rattle.record.specs.declared.take.Front.TheVariants.{Next, Stop}
+use Rattle.record.specs.Takes.{Whole, Stopped, Overlong}
 use Rattle.unit.specs.OnRecords.{action_room, action_size, on_record, written}
 use Rattle.unit.specs.Forms.{stepped}
 use Rattle.unit.specs.declared.state.State.{State}
@@ -33,14 +39,23 @@ Filling log room₀ s₀ room s at used =
 module _ (log : List ℕ) (short : length log ≤ longest_log) (room₀ : List ℕ) (s₀ : State)
     (room : List ℕ) (s : State) (at used : ℕ) (so_far : Filling log room₀ s₀ room s at used) where
   -- at a stop all is written
-  pub filling-end : length (course_sheet (ahead s₀ log)) ≤ length room₀
+  all-written : length (course_sheet (ahead s₀ log)) ≤ length room₀
       → (stop : ℕ)
-      → (take_one (drop at log) ≡ Stopped stop) ⊎ (take_one (drop at log) ≡ Refused stop)
+      → (take_one (drop at log) ≡ Stopped stop) ⊎ (take_one (drop at log) ≡ Overlong stop)
       → room ≡ course_sheet (ahead s₀ log) ++ drop (length (course_sheet (ahead s₀ log))) room₀
   unfolding course_sheet
-  filling-end fits stop e =
+  all-written fits stop e =
       sym (so_far.3 ∙ ap (λ x. sets room used (course_sheet x)) (stop-ahead log short s at stop e))
       ∙ sets-front room₀ (course_sheet (ahead s₀ log)) fits
+
+  -- and what is no whole record is a stop
+  pub filling-end : length (course_sheet (ahead s₀ log)) ≤ length room₀
+      → (f : Front)
+      → told_front f ≡ take_one (drop at log)
+      → ((k : ℕ) (r : Result Event Refusal) → f ≡ Next k r → ⊥)
+      → room ≡ course_sheet (ahead s₀ log) ++ drop (length (course_sheet (ahead s₀ log))) room₀
+  filling-end fits (Next k r) is other = absurd (other k r refl)
+  filling-end fits (Stop stop) is other = all-written fits (stop_number stop) (inl (sym is))
 
   -- a whole record, what the step on it answers, and the bytes of its actions
   module _ (k : ℕ) (r : Reading) (e : take_one (drop at log) ≡ Whole k r) (bytes : List ℕ) (lent : bytes ≡ take k (drop at log))

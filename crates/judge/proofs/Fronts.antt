@@ -15,8 +15,8 @@ use Rattle.wire.specs.Blocks.{blocks}
 use Rattle.wire.proofs.Tests.{and_left, and_right, and_both, true-false, All}
 use Rattle.record.specs.Records.{known, length_of, reading}
 use Rattle.record.specs.Takes.{nothing_left, record_short, kind_unknown, take_one}
-use Rattle.record.specs.declared.take.Taken.{Taken}
-use Rattle.record.specs.declared.take.Taken.TheVariants.{Whole, Stopped}
+use Rattle.record.specs.Takes.{Taken}
+use Rattle.record.specs.Takes.{Whole, Stopped}
 use Rattle.unit.specs.Steps.{Outcome}
 use Rattle.unit.specs.declared.answer.Action.{Action}
 use Rattle.judge.specs.declared.due.Due.{Due}

@@ -12,8 +12,8 @@ use lib.Seq.{take-append_seam, drop-append_seam, drop-drop}
 use Rattle.wire.specs.Blocks.{blocks}
 use Rattle.wire.proofs.Tests.{and_both, cond-case, All}
 use Rattle.record.specs.Takes.{take_one, on_taken}
-use Rattle.record.specs.declared.take.Taken.{Taken}
-use Rattle.record.specs.declared.take.Taken.TheVariants.{Stopped}
+use Rattle.record.specs.Takes.{Taken}
+use Rattle.record.specs.Takes.{Stopped}
 use Rattle.unit.specs.Steps.{Outcome}
 use Rattle.unit.specs.OnRecords.{action_room, on_record}
 use Rattle.unit.specs.declared.state.State.{State}

@@ -1,16 +1,16 @@
 -- The loop that counts a sheet: what is counted and what is still to come stay the whole.
 -- Defines: Measuring.
--- Proves: measuring-first, measuring-end, measuring-next.
-use mathlib.Core.Path.{◌≡◌, refl, sym, ap, ◌∙◌}
+-- Proves: measuring-end, measuring-next.
+use mathlib.Core.Path.{◌≡◌, sym, ap, ◌∙◌}
 use mathlib.Core.Logic.{◌⊎◌}
 use mathlib.Core.List.{List}
 use Prim.Native.Nat.{ℕ, ◌+◌, ◌*◌, ◌≤◌}
-use native.Mathlib.Nat.{zero-add, add-zero}
+use native.Mathlib.Nat.{add-zero}
 use native.Mathlib.Omega.{arith}
 use lib.ListN.{length, take, drop, length-append}
 use Rattle.record.specs.Takes.{longest_log, take_one}
-use Rattle.record.specs.declared.event.Reading.{Reading}
-use Rattle.record.specs.declared.take.Taken.TheVariants.{Whole, Stopped, Refused}
+use Rattle.record.specs.Readings.{Reading}
+use Rattle.record.specs.Takes.{Whole, Stopped, Overlong}
 use Rattle.unit.specs.OnRecords.{action_room, action_size, on_record}
 use Rattle.unit.specs.Forms.{most_actions, stepped}
 use Rattle.unit.specs.declared.state.State.{State}
@@ -36,23 +36,11 @@ Measuring log s₀ s at size records =
     × (course_records (ahead s₀ log) ≡ records + course_records (ahead s (drop at log)))
     × (course_stop (ahead s₀ log) ≡ course_stop (ahead s (drop at log)))
 
--- before the first record
-pub measuring-first : (log : List ℕ) (s : State) → Measuring log s s 0 0 0
-measuring-first log s =
-    let whole = ahead s log in (
-      omega arith,
-      omega arith,
-      omega arith,
-      sym (zero-add (length (course_sheet whole))),
-      sym (zero-add (course_records whole)),
-      refl,
-    )
-
 module _ (log : List ℕ) (short : length log ≤ longest_log) (s₀ s : State) (at size records : ℕ)
     (so_far : Measuring log s₀ s at size records) where
   -- at a stop all is counted
   pub measuring-end : (stop : ℕ)
-      → (take_one (drop at log) ≡ Stopped stop) ⊎ (take_one (drop at log) ≡ Refused stop)
+      → (take_one (drop at log) ≡ Stopped stop) ⊎ (take_one (drop at log) ≡ Overlong stop)
       → record { size = size; records = records; stop = stop } ≡ measured (ahead s₀ log)
   unfolding course_sheet course_records course_stop
   measuring-end stop e =

@@ -18,7 +18,7 @@ use Rattle.record.specs.Rows.{fields}
 use Rattle.record.specs.declared.partner.Partner.{Partner}
 use Rattle.record.specs.declared.event.Event.{Event}
 use Rattle.record.specs.declared.event.PartnerEvent.{PartnerEvent}
-use Rattle.record.specs.declared.event.Reading.TheVariants.{Meant, Refused}
+use Rattle.record.specs.Readings.{Meant, Refused}
 use Rattle.record.proofs.ByKind.{read-fields}
 use Rattle.place.specs.Places.{vacant, tries}
 use Rattle.place.specs.Table.{table, closing, again, turn, numbers, closes, one_more, judged}

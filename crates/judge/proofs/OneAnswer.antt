@@ -1,5 +1,5 @@
 -- No second answer satisfies the contract of a public function: a line for each of this crate's, over the contract as the checker names it.
--- The checker reads no contract of a function on readers: those lines say it in every model, of all that entails the contract.
+-- Those of the functions on readers say it in every model, of all that entails the contract.
 -- Proves: finding-is-right-once, stands-at-once, open-once, moved-once, stands-once, judged-once, judge-once, produce-once.
 use mathlib.Core.Path.{◌≡◌, sym, ◌∙◌}
 use seplogic.Ra.Ura.{Ura}
@@ -10,10 +10,10 @@ use types.Logic.{Logic}
 use contract.Monad.{Fun, fact, fact_i, fact_use}
 use Rattle.judge.proofs.due.Finding.is_right.Reads as finding-is-right
 use Rattle.judge.proofs.due.stands_at.Reads as stands_at
-use Rattle.judge.specs.contracts.reader.open as reader-open
-use Rattle.judge.specs.contracts.reader.moved as reader-moved
-use Rattle.judge.specs.contracts.reader.stands as reader-stands
-use Rattle.judge.specs.contracts.reader.judged as reader-judged
+use Rattle.judge.specs.contracts.reader.Reader.open as reader-open
+use Rattle.judge.specs.contracts.reader.Reader.moved as reader-moved
+use Rattle.judge.specs.contracts.reader.Reader.stands as reader-stands
+use Rattle.judge.specs.contracts.reader.Reader.judged as reader-judged
 use Rattle.judge.proofs.judge.judge.Reads as judge
 use Rattle.judge.proofs.produce.produce.Reads as produce
 

@@ -1,6 +1,6 @@
 -- Our own sheet by what the tests before it showed: the refusals in their order, then the sheet at the front of the room.
 -- Defines: Refuses, Counted.
--- Proves: limits-refused, log-refused, size-refused, room-refused, sheet-room, sheet-made.
+-- Proves: limits-refused, log-refused, size-refused, room-refused, sheet-made.
 use mathlib.Core.Path.{◌≡◌, sym, ap, ◌∙◌}
 use mathlib.Core.Bool.{true, false, cond}
 use mathlib.Core.List.{List, ◌++◌}
@@ -112,11 +112,7 @@ module _ (l : Limits) (log room : List ℕ) (started : Started) (sheet : Measure
         (λ none. omega arith)
 
     module _ (fits : sheet.size ≤ length room) where
-      -- the sheet has room
-      pub sheet-room : length (course_sheet (ahead started.state log)) ≤ length room
-      sheet-room = omega (arith, ap (λ (x : Measured). x.size) counted.3)
-
-      -- and is made
+      -- the sheet has room, and is made
       pub sheet-made : (after : List ℕ)
           → after ≡ course_sheet (ahead started.state log) ++ drop (length (course_sheet (ahead started.state log))) room
           → (record { code = accepted; written = sheet.size; records = sheet.records; stop = sheet.stop }

@@ -1,23 +1,24 @@
 -- The judge's walk, an event record and what follows it a turn.
 -- Defines: Judged, turned.
--- Proves: judged-none, judged-turn, whole-fits, actions-fit, point-behind, judged-more, judged-fails.
+-- Proves: judged-stop, whole-fits, point-behind, judged-more, judged-fails.
 use mathlib.Core.Path.{◌≡◌, refl, sym, ap, ap₂, subst, ◌∙◌}
 use mathlib.Core.Bool.{true, false, cond}
-use mathlib.Core.Logic.{inl, inr}
+use mathlib.Core.Logic.{◌⊎◌, inl, inr}
 use mathlib.Core.List.{List, [], ◌∷◌, map}
 use Prim.Native.Nat.{ℕ, zero, suc, ◌+◌, ◌*◌, ◌-◌, ◌≤◌}
 use native.Mathlib.Omega.{arith}
 use borrow.Author.Tests.{ltb-true, leb-true}
 use lib.Dec.{leb}
-use lib.ListN.{length, take, drop, length-append, length-drop}
+use lib.ListN.{length, take, drop, length-drop}
+use lib.Seq.{take_at}
 use Rattle.wire.proofs.Blocks.{blocks-length}
 use Rattle.wire.proofs.Tests.{cond-case}
 use Rattle.record.specs.Records.{known, length_of}
 use Rattle.record.specs.Takes.{take_one, on_taken}
 use Rattle.record.specs.TakeWords.{TakenOk}
-use Rattle.record.specs.declared.event.Reading.{Reading}
-use Rattle.record.specs.declared.take.Taken.{Taken}
-use Rattle.record.specs.declared.take.Taken.TheVariants.{Whole}
+use Rattle.record.specs.Readings.{Reading}
+use Rattle.record.specs.Takes.{Taken}
+use Rattle.record.specs.Takes.{Whole, Stopped, Overlong}
 use Rattle.record.proofs.Takes.{take-end}
 use Rattle.unit.specs.Steps.{Outcome}
 use Rattle.unit.specs.OnRecords.{action_room, action_size, on_record, bytes_of, action_bytes, written}
@@ -26,11 +27,11 @@ use Rattle.unit.specs.declared.state.State.{State}
 use Rattle.unit.specs.declared.answer.Stepped.{Stepped}
 use Rattle.judge.specs.Sheets.{dues}
 use Rattle.judge.specs.Judging.{is_right, dues_at, on_point, verdict_at, stopped_at, judged_from}
-use Rattle.judge.specs.Buffers.{buffer_actions}
+use Rattle.judge.specs.Buffers.{sent_actions}
 use Rattle.judge.specs.declared.due.Due.TheVariants.{TheAnswer, TheAction}
 use Rattle.judge.specs.declared.due.Point.{Point}
 use Rattle.judge.specs.declared.judge.Verdict.{Verdict}
-use Rattle.judge.proofs.Dues.{dues-follow, actions-written}
+use Rattle.judge.proofs.Dues.{dues-follow, actions-sent}
 
 -- what stands at the front of a log, whatever its length
 one_ok : (log : List ℕ) → TakenOk log (take_one log)
@@ -58,14 +59,9 @@ module _ (sheet : List ℕ) (start : State) (from : ℕ) where
   Judged s at records =
       (records ≤ at) × (judged_from (length sheet) start sheet from 0 ≡ judged_from (length sheet - records) s sheet at records)
 
-  pub judged-none : Judged start from 0
-  judged-none =
-      let all : length sheet ≡ length sheet - 0 = omega arith in
-      (omega arith, ap (λ n. judged_from n start sheet from 0) all)
-
   module _ (s : State) (at records : ℕ) (so_far : Judged s at records) where
     -- what bounds the event records is used up only where the sheet is
-    pub judged-turn : (t : Taken)
+    judged-turn : (t : Taken)
         → t ≡ take_one (drop at sheet)
         → turned (length sheet - (records + 1)) s sheet at records t ≡ judged_from (length sheet) start sheet from 0
     unfolding judged_from
@@ -82,6 +78,14 @@ module _ (sheet : List ℕ) (start : State) (from : ℕ) where
         by (suc n) some =
             let fewer : n ≡ length sheet - (records + 1) = omega arith in
             ap (λ m. turned m s sheet at records (take_one (drop at sheet))) fewer
+
+    -- where nothing more is taken
+    pub judged-stop : (stop : ℕ) (t : Taken)
+        → t ≡ take_one (drop at sheet)
+        → (t ≡ Stopped stop) ⊎ (t ≡ Overlong stop)
+        → stopped_at records stop at ≡ judged_from (length sheet) start sheet from 0
+    judged-stop stop t is (inl stops) = judged-turn (Stopped stop) (sym stops ∙ is)
+    judged-stop stop t is (inr stops) = judged-turn (Overlong stop) (sym stops ∙ is)
 
     -- the rest of a turn, from a point and the next state
     abbrev from-point : Point → State → Verdict
@@ -107,23 +111,26 @@ module _ (sheet : List ℕ) (start : State) (from : ℕ) where
         unfolding stepped
         counts = ap (λ (x : Stepped). x.count) answers
 
-        pub actions-fit : action_size * answer.count ≤ length buffer
-        unfolding written
-        actions-fit =
-            let bytes = blocks-length bytes_of action_size (λ a. refl) after.actions in
-            let joined = length-append (action_bytes after.actions) (drop (action_size * length after.actions) before) in
-            omega (arith, counts, ap length writes)
+        -- the bytes that the step wrote
+        abbrev lent-on : List ℕ
+        lent-on = take (action_size * answer.count) buffer
 
-        sent : buffer_actions answer.count buffer ≡ after.actions
+        sent : sent_actions lent-on ≡ after.actions
         unfolding written
-        sent = ap₂ buffer_actions counts writes ∙ actions-written after.actions _
+        sent =
+            let bytes = blocks-length bytes_of action_size (λ a. refl) after.actions in
+            let size : length (action_bytes after.actions) ≡ action_size * answer.count = omega (arith, counts) in
+            let rest = drop (action_size * length after.actions) before in
+            ap (λ l. sent_actions (take (action_size * answer.count) l)) writes
+            ∙ ap sent_actions (take_at (action_bytes after.actions) rest (action_size * answer.count) size)
+            ∙ actions-sent after.actions
 
         -- how far what is due behind it stands
         module _ (p : Point)
-            (is : p ≡ dues_at (TheAnswer answer.code ∷ map TheAction (buffer_actions answer.count buffer)) sheet (at + k)) where
+            (is : p ≡ dues_at (TheAnswer answer.code ∷ map TheAction (sent_actions lent-on)) sheet (at + k)) where
           pub point-behind : at + k ≤ p.at
           point-behind =
-              let later = dues-follow (TheAnswer answer.code ∷ map TheAction (buffer_actions answer.count buffer)) sheet (at + k) in
+              let later = dues-follow (TheAnswer answer.code ∷ map TheAction (sent_actions lent-on)) sheet (at + k) in
               omega (arith, ap (λ (x : Point). x.at) is)
 
           due-here : p ≡ dues_at (dues after) sheet (at + k)

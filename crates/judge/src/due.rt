@@ -1,14 +1,15 @@
 // What is due at an offset of a sheet, and what stands there.
-ghost use Rattle.std.specs.Prelude.{◌≡◌, ◌∷◌, map, ◌+◌, ◌*◌, ◌≤◌, length};
+ghost use Rattle.std.specs.Prelude.{◌≡◌, ◌∷◌, map, ◌+◌, ◌≤◌, length, drop};
 ghost use Rattle.unit.specs.OnRecords.{action_size};
-ghost use Rattle.judge.specs.Judging.{stopped_as, stands_at, is_right, dues_at};
-ghost use Rattle.judge.specs.Buffers.{same_partner_at, action_in, buffer_actions};
+ghost use Rattle.record.specs.Stops.{stop_number};
+ghost use Rattle.judge.specs.Judging.{stopped_as, compared, stands_at, is_right, dues_at};
+ghost use Rattle.judge.specs.Buffers.{action_in, sent_actions};
 
 use record::partner::Partner;
-use record::take::{NOTHING_LEFT, RECORD_SHORT, Taken, take_one};
+use record::stop::Stop;
+use record::take::{Front, front_at};
 use unit::answer::Action;
 use unit::bytes::ACTION_SIZE;
-use wire::join::and;
 
 // The kind of an answer, and its bytes.
 pub const ANSWER_KIND: u8 = 30;
@@ -45,90 +46,45 @@ impl Finding {
     pub fn is_right(self) -> bool
         ensures { result ≡ is_right self }
     {
-        match self {
-            Finding::Right => true,
-            Finding::Wrong => false,
-            Finding::Short => false,
-            Finding::Missing => false,
-        }
+        matches!(self, Finding::Right)
     }
 }
 
 // What a stop of a log is where an event record is due.
-pub(crate) fn stopped_as(stop: u8) -> Finding
-    ensures { result ≡ stopped_as stop }
+pub(crate) fn stopped_as(stop: Stop) -> Finding
+    ensures { result ≡ stopped_as (stop_number stop) }
 {
-    if stop == NOTHING_LEFT {
-        return Finding::Right;
+    match stop {
+        Stop::NothingLeft => Finding::Right,
+        Stop::RecordShort => Finding::Short,
+        _ => Finding::Wrong,
     }
-    if stop == RECORD_SHORT {
-        return Finding::Short;
-    }
-    Finding::Wrong
 }
 
 // Where an event record is due.
 fn event_at(sheet: &[u8], at: usize) -> Finding
     ensures { result ≡ stands_at Due.AnEvent sheet.now at }
 {
-    match take_one(sheet, at) {
-        Taken::Whole {
-            length: _,
-            reading: _,
-        } => Finding::Right,
-        Taken::Stopped(stop) => stopped_as(stop),
-        Taken::Refused(code) => stopped_as(code),
+    match front_at(sheet, at) {
+        Front::Next { .. } => Finding::Right,
+        Front::Stop(stop) => stopped_as(stop),
     }
 }
 
-// Where the answer with this number is due.
-fn answer_at(sheet: &[u8], at: usize, code: u8) -> Finding
-    ensures { result ≡ stands_at (Due.TheAnswer code) sheet.now at }
+// Where these bytes are due, of which there is one at least.
+fn compared(sheet: &[u8], at: usize, due: &[u8]) -> Finding
+    requires { 1 ≤ length due.now }
+    ensures { result ≡ compared due.now (drop at sheet.now) }
 {
     if at >= sheet.len() {
         return Finding::Missing;
     }
-    if sheet[at] != ANSWER_KIND {
-        return Finding::Wrong;
+    let rest = &sheet[at..];
+    if rest.starts_with(due) {
+        return Finding::Right;
     }
-    if sheet.len() - at < ANSWER_SIZE {
-        return Finding::Short;
-    }
-    if sheet[at + 1] == code {
-        Finding::Right
-    } else {
-        Finding::Wrong
-    }
-}
-
-// Whether the four bytes of this partner stand behind this place.
-fn same_partner_at(sheet: &[u8], at: usize, partner: Partner) -> bool
-    requires { at + action_size ≤ length sheet.now }
-    ensures { result ≡ same_partner_at sheet.now at partner }
-{
-    let first = and(sheet[at + 1] == partner.kind, sheet[at + 2] == partner.high);
-    let second = and(
-        sheet[at + 3] == partner.middle,
-        sheet[at + 4] == partner.low,
-    );
-    and(first, second)
-}
-
-// Where this action is due.
-fn action_at(sheet: &[u8], at: usize, action: Action) -> Finding
-    ensures { result ≡ stands_at (Due.TheAction action) sheet.now at }
-{
-    if at >= sheet.len() {
-        return Finding::Missing;
-    }
-    if sheet[at] != action.number {
-        return Finding::Wrong;
-    }
-    if sheet.len() - at < ACTION_SIZE {
-        return Finding::Short;
-    }
-    if same_partner_at(sheet, at, action.partner) {
-        Finding::Right
+    if (rest[0] == due[0]) & (rest.len() < due.len()) {
+        Finding::Short
     } else {
         Finding::Wrong
     }
@@ -140,8 +96,18 @@ pub fn stands_at(sheet: &[u8], at: usize, due: Due) -> Finding
 {
     match due {
         Due::AnEvent => event_at(sheet, at),
-        Due::TheAnswer(code) => answer_at(sheet, at, code),
-        Due::TheAction(action) => action_at(sheet, at, action),
+        Due::TheAnswer(code) => compared(sheet, at, &[ANSWER_KIND, code]),
+        Due::TheAction(action) => {
+            let partner = action.partner;
+            let due = [
+                action.number,
+                partner.kind,
+                partner.high,
+                partner.middle,
+                partner.low,
+            ];
+            compared(sheet, at, &due)
+        }
     }
 }
 
@@ -161,49 +127,34 @@ fn action_in(buffer: &[u8], at: usize) -> Action
     }
 }
 
-// How far the actions of a buffer stand in a sheet, from an offset on.
-fn actions_at(sheet: &[u8], from: usize, buffer: &[u8], count: usize) -> Point
-    requires { action_size * count ≤ length buffer.now }
-    ensures { result ≡ dues_at (map Due.TheAction (buffer_actions count buffer.now)) sheet.now from }
+// How far actions that were sent stand in a sheet, from an offset on.
+fn actions_at(sheet: &[u8], from: usize, sent: &[u8]) -> Point
+    ensures { result ≡ dues_at (map Due.TheAction (sent_actions sent.now)) sheet.now from }
 {
     let mut at = from;
-    let mut i = 0;
-    loop {
-        if i >= count {
-            break Point {
-                stands: Finding::Right,
-                at,
-                due: Due::AnEvent,
-            };
+    for i in 0..sent.len() / ACTION_SIZE {
+        let due = Due::TheAction(action_in(sent, ACTION_SIZE * i));
+        let stands = stands_at(sheet, at, due);
+        if !stands.is_right() {
+            return Point { stands, at, due };
         }
-        let action = action_in(buffer, ACTION_SIZE * i);
-        let stands = action_at(sheet, at, action);
-        if stands.is_right() {
-            at += ACTION_SIZE;
-            i += 1;
-        } else {
-            break Point {
-                stands,
-                at,
-                due: Due::TheAction(action),
-            };
-        }
+        at += ACTION_SIZE;
+    }
+    Point {
+        stands: Finding::Right,
+        at,
+        due: Due::AnEvent,
     }
 }
 
-// How far an answer with this number and the actions of a buffer stand in a sheet, from an offset on.
-pub(crate) fn dues_at(sheet: &[u8], at: usize, code: u8, buffer: &[u8], count: usize) -> Point
-    requires { action_size * count ≤ length buffer.now }
-    ensures { result
-        ≡ dues_at (Due.TheAnswer code ∷ map Due.TheAction (buffer_actions count buffer.now)) sheet.now at }
+// How far an answer with this number and the actions that were sent stand in a sheet, from an offset on.
+pub(crate) fn dues_at(sheet: &[u8], at: usize, code: u8, sent: &[u8]) -> Point
+    ensures { result ≡ dues_at (Due.TheAnswer code ∷ map Due.TheAction (sent_actions sent.now)) sheet.now at }
 {
-    let stands = answer_at(sheet, at, code);
+    let due = Due::TheAnswer(code);
+    let stands = stands_at(sheet, at, due);
     if stands.is_right() {
-        return actions_at(sheet, at + ANSWER_SIZE, buffer, count);
+        return actions_at(sheet, at + ANSWER_SIZE, sent);
     }
-    Point {
-        stands,
-        at,
-        due: Due::TheAnswer(code),
-    }
+    Point { stands, at, due }
 }

@@ -1,14 +1,17 @@
 // The judge: how far a sheet is the one that our step produces from a cold start.
 ghost use Rattle.std.specs.Prelude.{◌≡◌, length};
+ghost use Rattle.record.specs.Stops.{stop_number};
 ghost use Rattle.judge.specs.Judging.{stopped_at, judged_from, judge_refused, judge_from, judgement};
 
 use crate::due::{Due, Finding, Point, dues_at, stopped_as};
-use crate::reader::{judged, open};
+use crate::reader::Reader;
 use place::limits::Limits;
-use record::take::{Taken, take_one};
+use record::stop::Stop;
+use record::take::{Front, front_at};
+use unit::bytes::ACTION_SIZE;
 use unit::start::cold_start;
 use unit::state::State;
-use wire::refusal::{ACCEPTED, LOG_TOO_LONG};
+use wire::refusal::{ACCEPTED, Refusal};
 
 // The longest sheet.
 pub const LONGEST_SHEET: usize = 1_048_576;
@@ -38,8 +41,8 @@ impl Verdict {
     }
 
     // Where no whole event record stands.
-    fn stopped(records: usize, stop: u8, at: usize) -> Verdict
-        ensures { result ≡ stopped_at records stop at }
+    fn stopped(records: usize, stop: Stop, at: usize) -> Verdict
+        ensures { result ≡ stopped_at records (stop_number stop) at }
     {
         Verdict {
             code: ACCEPTED,
@@ -61,19 +64,17 @@ fn walk(start: State, sheet: &[u8], from: usize) -> Verdict
     let mut at = from;
     let mut records = 0;
     loop {
-        match take_one(sheet, at) {
-            Taken::Stopped(stop) => {
+        match front_at(sheet, at) {
+            Front::Stop(stop) => {
                 break Verdict::stopped(records, stop, at);
             }
-            Taken::Refused(code) => {
-                break Verdict::stopped(records, code, at);
-            }
-            Taken::Whole { length, reading: _ } => {
+            Front::Next { length, .. } => {
                 let end = at + length;
                 let mut buffer = [0u8; 20];
                 let stepped = state.on_record(&sheet[at..end], &mut buffer);
                 let next = stepped.state;
-                let point = dues_at(sheet, end, stepped.code, &buffer, stepped.count);
+                let sent = ACTION_SIZE * stepped.count;
+                let point = dues_at(sheet, end, stepped.code, &buffer[..sent]);
                 let stands = point.stands;
                 if stands.is_right() {
                     state = next;
@@ -102,7 +103,7 @@ pub(crate) fn judge_from(limits: Limits, sheet: &[u8], at: usize) -> Verdict
         return Verdict::refused(code);
     }
     if sheet.len() > LONGEST_SHEET {
-        return Verdict::refused(LOG_TOO_LONG);
+        return Verdict::refused(Refusal::LogTooLong.number());
     }
     walk(state, sheet, at)
 }
@@ -111,5 +112,5 @@ pub(crate) fn judge_from(limits: Limits, sheet: &[u8], at: usize) -> Verdict
 pub fn judge(limits: Limits, sheet: &[u8]) -> Verdict
     ensures { result ≡ judgement limits sheet.now }
 {
-    judged(open(sheet), limits)
+    Reader::open(sheet).judged(limits)
 }

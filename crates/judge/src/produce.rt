@@ -11,11 +11,11 @@ ghost use Rattle.judge.specs.Buffers.{measured};
 use crate::due::{ANSWER_KIND, ANSWER_SIZE};
 use crate::judge::LONGEST_SHEET;
 use place::limits::Limits;
-use record::take::{LONGEST_LOG, Taken, take_one};
+use record::take::{Front, LONGEST_LOG, front_at};
 use unit::bytes::ACTION_SIZE;
 use unit::start::cold_start;
 use unit::state::State;
-use wire::refusal::{ACCEPTED, LOG_TOO_LONG, NO_ROOM};
+use wire::refusal::{ACCEPTED, Refusal};
 
 // What making a sheet answers: 0 or the number of the refusal, the bytes written, the event records, and the run's stop.
 #[derive(Clone, Copy)]
@@ -57,22 +57,15 @@ fn measure(start: State, log: &[u8]) -> Measured
     let mut size = 0;
     let mut records = 0;
     loop {
-        match take_one(log, at) {
-            Taken::Stopped(stop) => {
+        match front_at(log, at) {
+            Front::Stop(stop) => {
                 break Measured {
                     size,
                     records,
-                    stop,
+                    stop: stop.number(),
                 };
             }
-            Taken::Refused(code) => {
-                break Measured {
-                    size,
-                    records,
-                    stop: code,
-                };
-            }
-            Taken::Whole { length, reading: _ } => {
+            Front::Next { length, .. } => {
                 let end = at + length;
                 let mut buffer = [0u8; 20];
                 let stepped = state.on_record(&log[at..end], &mut buffer);
@@ -86,18 +79,6 @@ fn measure(start: State, log: &[u8]) -> Measured
     }
 }
 
-// Puts these bytes at a place.
-fn put(room: &mut [u8], at: usize, bytes: &[u8])
-    requires { at + length bytes.now ≤ length room.old }
-    ensures { room.new ≡ sets room.old at bytes.now }
-{
-    let mut i = 0;
-    while i < bytes.len() {
-        room[at + i] = bytes[i];
-        i += 1;
-    }
-}
-
 // Puts a record, its answer and its actions at a place; answers where they end.
 fn put_entry(room: &mut [u8], at: usize, bytes: &[u8], code: u8, actions: &[u8]) -> usize
     requires { at + (length bytes.now + (answer_size + length actions.now)) ≤ length room.old }
@@ -107,11 +88,12 @@ fn put_entry(room: &mut [u8], at: usize, bytes: &[u8], code: u8, actions: &[u8])
 {
     let answer = at + bytes.len();
     let sent = answer + ANSWER_SIZE;
-    put(room, at, bytes);
+    let end = sent + actions.len();
+    room[at..answer].copy_from_slice(bytes);
     room[answer] = ANSWER_KIND;
     room[answer + 1] = code;
-    put(room, sent, actions);
-    sent + actions.len()
+    room[sent..end].copy_from_slice(actions);
+    end
 }
 
 // Writes the sheet of a log from this state on.
@@ -125,25 +107,15 @@ fn fill(start: State, log: &[u8], room: &mut [u8])
     let mut state = start;
     let mut at = 0;
     let mut used = 0;
-    loop {
-        match take_one(log, at) {
-            Taken::Stopped(_) => {
-                break;
-            }
-            Taken::Refused(_) => {
-                break;
-            }
-            Taken::Whole { length, reading: _ } => {
-                let end = at + length;
-                let mut buffer = [0u8; 20];
-                let stepped = state.on_record(&log[at..end], &mut buffer);
-                let next = stepped.state;
-                let sent = ACTION_SIZE * stepped.count;
-                used = put_entry(room, used, &log[at..end], stepped.code, &buffer[..sent]);
-                state = next;
-                at = end;
-            }
-        }
+    while let Front::Next { length, .. } = front_at(log, at) {
+        let end = at + length;
+        let mut buffer = [0u8; 20];
+        let stepped = state.on_record(&log[at..end], &mut buffer);
+        let next = stepped.state;
+        let sent = ACTION_SIZE * stepped.count;
+        used = put_entry(room, used, &log[at..end], stepped.code, &buffer[..sent]);
+        state = next;
+        at = end;
     }
 }
 
@@ -161,15 +133,15 @@ pub fn produce(limits: Limits, log: &[u8], room: &mut [u8]) -> Produced
         return Produced::refused(refusal);
     }
     if log.len() > LONGEST_LOG {
-        return Produced::refused(LOG_TOO_LONG);
+        return Produced::refused(Refusal::LogTooLong.number());
     }
     let sheet = measure(state, log);
     let size = sheet.size;
     if size > LONGEST_SHEET {
-        return Produced::refused(LOG_TOO_LONG);
+        return Produced::refused(Refusal::LogTooLong.number());
     }
     if size > room.len() {
-        return Produced::refused(NO_ROOM);
+        return Produced::refused(Refusal::NoRoom.number());
     }
     fill(state, log, room);
     Produced {

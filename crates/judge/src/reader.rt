@@ -13,33 +13,35 @@ pub struct Reader<'a> {
     pub at: usize,
 }
 
-// A reader at the beginning of a sheet.
-pub fn open<'a>(sheet: &'a [u8]) -> Reader<'a>
-    ensures { result ≡ opened sheet.entry }
-{
-    Reader { sheet, at: 0 }
-}
-
-// The reader at another offset.
-pub fn moved<'a>(reader: Reader<'a>, at: usize) -> Reader<'a>
-    ensures { result ≡ moved_to reader.entry at }
-{
-    Reader {
-        sheet: reader.sheet,
-        at,
+impl<'a> Reader<'a> {
+    // A reader at the beginning of a sheet.
+    pub fn open(sheet: &'a [u8]) -> Reader<'a>
+        ensures { result ≡ opened sheet.entry }
+    {
+        Reader { sheet, at: 0 }
     }
-}
 
-// What stands at the offset reached, where this is due.
-pub fn stands<'a>(reader: Reader<'a>, due: Due) -> Finding
-    ensures { result ≡ reader_stands reader.entry due }
-{
-    stands_at(reader.sheet, reader.at, due)
-}
+    // The reader at another offset.
+    pub fn moved(self, at: usize) -> Reader<'a>
+        ensures { result ≡ moved_to self.entry at }
+    {
+        Reader {
+            sheet: self.sheet,
+            at,
+        }
+    }
 
-// The judge from the offset reached on.
-pub fn judged<'a>(reader: Reader<'a>, limits: Limits) -> Verdict
-    ensures { result ≡ reader_judged reader.entry limits }
-{
-    judge_from(limits, reader.sheet, reader.at)
+    // What stands at the offset reached, where this is due.
+    pub fn stands(self, due: Due) -> Finding
+        ensures { result ≡ reader_stands self.entry due }
+    {
+        stands_at(self.sheet, self.at, due)
+    }
+
+    // The judge from the offset reached on.
+    pub fn judged(self, limits: Limits) -> Verdict
+        ensures { result ≡ reader_judged self.entry limits }
+    {
+        judge_from(limits, self.sheet, self.at)
+    }
 }

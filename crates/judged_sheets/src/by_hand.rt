@@ -10,17 +10,16 @@ use sets::state::SetState;
 use std::io;
 use streams::buffer;
 use tools::compared::{Differences, put_differences};
-use tools::text::put;
 use unit::last::Last;
 use unit::state::{Marks, State, Train};
 
 // Prints a name and what differs.
-pub(crate) fn say(rt: &HostRuntime, name: &[u8], found: Differences) -> io::Result<()> {
+pub(crate) fn say(rt: &HostRuntime, name: &str, found: Differences) -> io::Result<()> {
     let mut out = buffer();
-    let at = put(&mut out, 0, name);
-    let at = put_differences(&mut out, at, found);
-    let at = put(&mut out, at, b"\n");
-    rt.write_all(front(&out, at))
+    let length = put_differences(&mut out, 0, found);
+    rt.print(name)?;
+    rt.write_all(front(&out, length))?;
+    rt.write_all(b"\n")
 }
 
 pub(crate) fn rbc(number: u8) -> Partner {
@@ -114,10 +113,12 @@ pub(crate) fn six() -> SixSets {
 
 // The same as sets.
 pub(crate) fn in_sets_after(last: Last) -> SetState {
-    let state = places();
-    let limits = state.limits;
-    let train = state.train;
-    let marks = state.marks;
+    let State {
+        limits,
+        train,
+        marks,
+        ..
+    } = places();
     SetState {
         limits,
         train,

@@ -4,6 +4,7 @@
 mod both;
 mod by_hand;
 mod long;
+mod pieces;
 mod shunting;
 mod unequal;
 mod unequal_answers;
@@ -31,77 +32,84 @@ fn with_tries(tries: u8) -> Limits {
     }
 }
 
+// The first n bytes, or all where there are fewer.
 pub(crate) fn front(room: &[u8], n: usize) -> &[u8] {
-    if n <= room.len() { &room[0..n] } else { room }
+    room.get(..n).unwrap_or(room)
 }
 
-// Reads a file, after its name; answers how many bytes it has.
-pub(crate) fn read_after(
-    rt: &HostRuntime,
-    name: &[u8],
-    path: &[u8],
-    room: &mut [u8],
-) -> io::Result<usize> {
-    rt.write_all(name)?;
-    match open_read(rt, path) {
-        Ok(mut file) => read_full(&mut file, room),
+// What a file holds, as far as it has room; that it cannot be opened is told on standard error, and it holds nothing.
+pub(crate) fn read<'a>(rt: &HostRuntime, path: &str, room: &'a mut [u8]) -> io::Result<&'a [u8]> {
+    let n = match open_read(rt, path.as_bytes()) {
+        Ok(mut file) => read_full(&mut file, room)?,
         Err(error) => {
-            fail(&rt.stderr(), path, error)?;
-            Ok(0)
+            fail(&rt.stderr(), path.as_bytes(), error)?;
+            0
         }
-    }
+    };
+    Ok(&room[..n])
 }
 
-fn judged(rt: &HostRuntime, name: &[u8], path: &[u8], limits: Limits) -> io::Result<()> {
-    let mut sheet = buffer();
-    let n = read_after(rt, name, path, &mut sheet)?;
+// Reads a file, after its name.
+pub(crate) fn read_after<'a>(
+    rt: &HostRuntime,
+    name: &str,
+    path: &str,
+    room: &'a mut [u8],
+) -> io::Result<&'a [u8]> {
+    println!(rt; "{name}")?;
+    read(rt, path, room)
+}
+
+fn judged(rt: &HostRuntime, name: &str, path: &str, limits: Limits) -> io::Result<()> {
+    let mut room = buffer();
+    let sheet = read_after(rt, name, path, &mut room)?;
     let mut out = buffer();
-    let told = judge_text(limits, front(&sheet, n), &mut out);
+    let told = judge_text(limits, sheet, &mut out);
     rt.write_all(front(&out, told.length))
 }
 
 // Makes the sheet of a log, and judges it.
-fn made(rt: &HostRuntime, name: &[u8], path: &[u8], limits: Limits) -> io::Result<()> {
-    let mut log = buffer();
-    let n = read_after(rt, name, path, &mut log)?;
+fn made(rt: &HostRuntime, name: &str, path: &str, limits: Limits) -> io::Result<()> {
+    let mut room = buffer();
+    let log = read_after(rt, name, path, &mut room)?;
     let mut sheet = buffer();
-    let answer = produce(limits, front(&log, n), &mut sheet);
+    let answer = produce(limits, log, &mut sheet);
     let mut out = buffer();
-    let length = produce_text(limits, front(&log, n), answer, &mut out);
+    let length = produce_text(limits, log, answer, &mut out);
     rt.write_all(front(&out, length))?;
     let told = judge_text(limits, front(&sheet, answer.written), &mut out);
     rt.write_all(front(&out, told.length))
 }
 
 fn judge_all(rt: &HostRuntime, fleet: Limits) -> io::Result<()> {
-    judged(rt, b"accepted\n", b"accepted.bin", fleet)?;
-    judged(rt, b"empty\n", b"empty.bin", fleet)?;
-    judged(rt, b"answer\n", b"answer.bin", fleet)?;
-    judged(rt, b"action\n", b"action.bin", fleet)?;
-    judged(rt, b"gap\n", b"gap.bin", fleet)?;
-    judged(rt, b"short\n", b"short.bin", fleet)?;
-    judged(rt, b"cut\n", b"cut.bin", fleet)?;
-    judged(rt, b"end\n", b"end.bin", fleet)?;
-    judged(rt, b"unknown\n", b"unknown.bin", fleet)?;
-    judged(rt, b"log\n", b"log.bin", fleet)?;
-    judged(rt, b"printed\n", b"printed.txt", fleet)
+    judged(rt, "accepted", "accepted.bin", fleet)?;
+    judged(rt, "empty", "empty.bin", fleet)?;
+    judged(rt, "answer", "answer.bin", fleet)?;
+    judged(rt, "action", "action.bin", fleet)?;
+    judged(rt, "gap", "gap.bin", fleet)?;
+    judged(rt, "short", "short.bin", fleet)?;
+    judged(rt, "cut", "cut.bin", fleet)?;
+    judged(rt, "end", "end.bin", fleet)?;
+    judged(rt, "unknown", "unknown.bin", fleet)?;
+    judged(rt, "log", "log.bin", fleet)?;
+    judged(rt, "printed", "printed.txt", fleet)
 }
 
 fn main(rt: HostRuntime) -> io::Result<()> {
     let fleet = with_tries(FLEET_TRIES);
     judge_all(&rt, fleet)?;
-    judged(&rt, b"no tries\n", b"accepted.bin", with_tries(0))?;
+    judged(&rt, "no tries", "accepted.bin", with_tries(0))?;
     judged(
         &rt,
-        b"five tries\n",
-        b"five_tries.bin",
+        "five tries",
+        "five_tries.bin",
         with_tries(DEFAULT_TRIES),
     )?;
-    judged(&rt, b"five tries of three\n", b"five_tries.bin", fleet)?;
-    made(&rt, b"made\n", b"log.bin", fleet)?;
-    made(&rt, b"made, short\n", b"short_log.bin", fleet)?;
-    made(&rt, b"made, unknown\n", b"unknown_log.bin", fleet)?;
-    made(&rt, b"made, no tries\n", b"log.bin", with_tries(0))?;
+    judged(&rt, "five tries of three", "five_tries.bin", fleet)?;
+    made(&rt, "made", "log.bin", fleet)?;
+    made(&rt, "made, short", "short_log.bin", fleet)?;
+    made(&rt, "made, unknown", "unknown_log.bin", fleet)?;
+    made(&rt, "made, no tries", "log.bin", with_tries(0))?;
     mark_all(&rt, fleet, with_tries(0))?;
     shunt_all(&rt, fleet, with_tries(0))?;
     compare_all(&rt, fleet, with_tries(0))?;

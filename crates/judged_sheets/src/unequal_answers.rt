@@ -1,14 +1,15 @@
 // What the comparison of the two engines tells of pairs of answers and of runs made by hand.
 use crate::by_hand::{in_sets, places, rbc, say};
 use place::action::{REQUEST, TERMINATE};
+use runs::run::{MachineReport, MachineTally};
 use sets::answer::SetAnswer;
-use sets::run::{SetReport, SetTally};
+use sets::state::SetState;
 use std::io;
 use tools::compared::{compare_answers, same_runs};
 use unit::answer::{Action, Actions, Answer};
 use unit::run::{Report, Tally, Totals};
 use unit::search::Standing;
-use wire::refusal::{ACCEPTED, NOT_TAKEN};
+use wire::refusal::{ACCEPTED, Refusal};
 
 fn action(number: u8, partner: u8) -> Action {
     Action {
@@ -50,20 +51,9 @@ fn answered(code: u8, phase: u8, actions: Actions) -> SetAnswer {
 }
 
 // Prints what differs with these actions.
-fn with_actions(
-    rt: &HostRuntime,
-    name: &[u8],
-    first: Action,
-    second: Action,
-    third: Action,
-    count: usize,
-) -> io::Result<()> {
-    let actions = three(first, second, third, count);
-    say(
-        rt,
-        name,
-        compare_answers(answer(), answered(ACCEPTED, 0, actions)),
-    )
+fn with_actions(rt: &HostRuntime, name: &str, actions: Actions) -> io::Result<()> {
+    let other = answered(ACCEPTED, 0, actions);
+    say(rt, name, compare_answers(answer(), other))
 }
 
 fn compare_actions(rt: &HostRuntime) -> io::Result<()> {
@@ -71,36 +61,24 @@ fn compare_actions(rt: &HostRuntime) -> io::Result<()> {
     let calls = action(REQUEST, 2);
     with_actions(
         rt,
-        b"equal, actions in another order: ",
-        calls,
-        ends,
-        ends,
-        3,
+        "equal, actions in another order: ",
+        three(calls, ends, ends, 3),
     )?;
-    with_actions(rt, b"unequal, an action less: ", ends, ends, calls, 2)?;
+    with_actions(rt, "unequal, an action less: ", three(ends, ends, calls, 2))?;
     with_actions(
         rt,
-        b"unequal, an action for another partner: ",
-        ends,
-        ends,
-        action(REQUEST, 1),
-        3,
+        "unequal, an action for another partner: ",
+        three(ends, ends, action(REQUEST, 1), 3),
     )?;
     with_actions(
         rt,
-        b"unequal, another action: ",
-        ends,
-        ends,
-        action(TERMINATE, 2),
-        3,
+        "unequal, another action: ",
+        three(ends, ends, action(TERMINATE, 2), 3),
     )?;
     with_actions(
         rt,
-        b"unequal, twice the other action: ",
-        ends,
-        calls,
-        calls,
-        3,
+        "unequal, twice the other action: ",
+        three(ends, calls, calls, 3),
     )
 }
 
@@ -109,12 +87,12 @@ fn compare_codes(rt: &HostRuntime) -> io::Result<()> {
     let actions = box_answer.actions;
     say(
         rt,
-        b"unequal, another refusal: ",
-        compare_answers(box_answer, answered(NOT_TAKEN, 0, actions)),
+        "unequal, another refusal: ",
+        compare_answers(box_answer, answered(Refusal::NotTaken.number(), 0, actions)),
     )?;
     say(
         rt,
-        b"unequal, another phase: ",
+        "unequal, another phase: ",
         compare_answers(box_answer, answered(ACCEPTED, 3, actions)),
     )
 }
@@ -146,11 +124,11 @@ fn report() -> Report {
 }
 
 // The same of the engine of sets.
-fn set_report() -> SetReport {
-    SetReport {
+fn set_report() -> MachineReport<SetState> {
+    MachineReport {
         code: ACCEPTED,
         stop: 0,
-        tally: SetTally {
+        tally: MachineTally {
             state: in_sets(),
             offset: 9,
             read: 3,
@@ -161,57 +139,56 @@ fn set_report() -> SetReport {
 }
 
 // Prints whether a run is the same as that of the engine of places.
-fn with_run(rt: &HostRuntime, name: &[u8], other: SetReport) -> io::Result<()> {
-    rt.write_all(name)?;
-    if same_runs(report(), other) {
-        rt.write_all(b"the same\n")?;
+fn with_run(rt: &HostRuntime, name: &str, other: MachineReport<SetState>) -> io::Result<()> {
+    let told = if same_runs(report(), other) {
+        "the same"
     } else {
-        rt.write_all(b"the runs differ\n")?;
-    }
-    Ok(())
+        "the runs differ"
+    };
+    println!(rt; "{name}{told}")
 }
 
 fn compare_ends(rt: &HostRuntime) -> io::Result<()> {
-    with_run(rt, b"equal, the same runs: ", set_report())?;
+    with_run(rt, "equal, the same runs: ", set_report())?;
     let mut code = set_report();
-    code.code = NOT_TAKEN;
-    with_run(rt, b"unequal, another refusal of the run: ", code)?;
+    code.code = Refusal::NotTaken.number();
+    with_run(rt, "unequal, another refusal of the run: ", code)?;
     let mut stop = set_report();
     stop.stop = 1;
-    with_run(rt, b"unequal, another stop: ", stop)?;
+    with_run(rt, "unequal, another stop: ", stop)?;
     let mut offset = set_report();
     offset.tally.offset = 10;
-    with_run(rt, b"unequal, another offset: ", offset)?;
+    with_run(rt, "unequal, another offset: ", offset)?;
     let mut read = set_report();
     read.tally.read = 4;
-    with_run(rt, b"unequal, another number of records: ", read)?;
+    with_run(rt, "unequal, another number of records: ", read)?;
     let mut refused = set_report();
     refused.tally.refused = 1;
-    with_run(rt, b"unequal, another number of refusals: ", refused)?;
+    with_run(rt, "unequal, another number of refusals: ", refused)?;
     let mut state = set_report();
     state.tally.state.train.level = 3;
-    with_run(rt, b"unequal, another last state: ", state)
+    with_run(rt, "unequal, another last state: ", state)
 }
 
 fn compare_totals(rt: &HostRuntime) -> io::Result<()> {
     let mut request = set_report();
     request.tally.totals.request = 2;
-    with_run(rt, b"unequal, another total of 21: ", request)?;
+    with_run(rt, "unequal, another total of 21: ", request)?;
     let mut release = set_report();
     release.tally.totals.release = 2;
-    with_run(rt, b"unequal, another total of 22: ", release)?;
+    with_run(rt, "unequal, another total of 22: ", release)?;
     let mut incompatible = set_report();
     incompatible.tally.totals.incompatible = 2;
-    with_run(rt, b"unequal, another total of 154: ", incompatible)?;
+    with_run(rt, "unequal, another total of 154: ", incompatible)?;
     let mut initiate = set_report();
     initiate.tally.totals.initiate = 2;
-    with_run(rt, b"unequal, another total of 155: ", initiate)?;
+    with_run(rt, "unequal, another total of 155: ", initiate)?;
     let mut terminate = set_report();
     terminate.tally.totals.terminate = 2;
-    with_run(rt, b"unequal, another total of 156: ", terminate)?;
+    with_run(rt, "unequal, another total of 156: ", terminate)?;
     let mut established = set_report();
     established.tally.totals.established = 2;
-    with_run(rt, b"unequal, another total of 159: ", established)
+    with_run(rt, "unequal, another total of 159: ", established)
 }
 
 // Prints what is told of each pair of answers and of runs.

@@ -1,5 +1,6 @@
 -- The point of a log that the mark of a number leads to: by the tests on the number, that it is sound, and where its mark stands.
--- Proves: begun_first, begun-missing, begun-there, begun-fine, begun-held.
+-- Defines: Fine.
+-- Proves: begun_first, begun-missing, begun-there, refused-fine, begun-fine, begun-held.
 use mathlib.Core.Path.{◌≡◌, refl, ap₂, ◌∙◌}
 use mathlib.Core.Bool.{true, ◌&&◌}
 use mathlib.Core.List.{List}
@@ -49,10 +50,10 @@ module _ (s : State) (log marks : List ℕ) where
       ∙ simp (le-leb (mark_size * suc n) (length marks) (omega arith))
 
   -- a point in the log, with a sound state
-  abbrev Fine : Begun → Type 0
+  abbrev pub Fine : Begun → Type 0
   Fine b = (b.offset ≤ length log) × (sound b.state ≡ true)
 
-  refused-fine : (r : ℕ) → Fine (begun_refused r)
+  pub refused-fine : (r : ℕ) → Fine (begun_refused r)
   unfolding cold_start
   refused-fine r = (omega arith, cold-sound no_limits)
 

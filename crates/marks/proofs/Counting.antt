@@ -12,8 +12,8 @@ use borrow.Author.Tests.{ltb-true, le-ltb}
 use Rattle.wire.proofs.Tests.{cond-case, cond-holds}
 use Rattle.record.specs.Records.{known, length_of, reading}
 use Rattle.record.specs.Takes.{nothing_left, record_short, kind_unknown, take_one, on_taken}
-use Rattle.record.specs.declared.take.Taken.{Taken}
-use Rattle.record.specs.declared.take.Taken.TheVariants.{Stopped}
+use Rattle.record.specs.Takes.{Taken}
+use Rattle.record.specs.Takes.{Stopped}
 use Rattle.record.proofs.Takes.{take-end, by_kind, take_short, take_whole}
 use Rattle.marks.specs.Marks.{records_in, whole_records}
 

@@ -10,9 +10,9 @@ use native.Mathlib.Nat.{add-zero}
 use lib.ListN.{length, take, drop, length-append, length-drop}
 use lib.Seq.{take-append-le, drop-append-le}
 use Rattle.record.specs.Takes.{longest_log, take_one}
-use Rattle.record.specs.declared.event.Reading.{Reading}
-use Rattle.record.specs.declared.take.Taken.{Taken}
-use Rattle.record.specs.declared.take.Taken.TheVariants.{Whole, Stopped, Refused}
+use Rattle.record.specs.Readings.{Reading}
+use Rattle.record.specs.Takes.{Taken}
+use Rattle.record.specs.Takes.{Whole, Stopped, Overlong}
 use Rattle.record.proofs.Takes.{taken-short}
 use Rattle.unit.specs.States.{sound}
 use Rattle.unit.specs.OnRecords.{action_room, on_record}
@@ -50,7 +50,7 @@ module _ (P : ℕ → Tally → List ℕ → Tally → Type 0)
       by (Stopped code) e later =
           subst (P (suc b) t log) (sym ((go-ends t log).1 b code (taken-short log short ∙ e)).0)
           (stop b t log (records-stop b log code (inl e)))
-      by (Refused code) e later =
+      by (Overlong code) e later =
           subst (P (suc b) t log) (ap (λ x. x.tally) (go-refused t (suc b) (some b) log code (taken-short log short ∙ e)))
           (stop b t log (records-stop b log code (inr e)))
 

@@ -9,9 +9,9 @@ use lib.ListN.{length, drop, length-append, length-drop}
 use lib.Seq.{take-append-le, drop-append-le}
 use Rattle.record.specs.Records.{reading}
 use Rattle.record.specs.Takes.{take_one, on_taken}
-use Rattle.record.specs.declared.event.Reading.{Reading}
-use Rattle.record.specs.declared.take.Taken.{Taken}
-use Rattle.record.specs.declared.take.Taken.TheVariants.{Whole, Stopped, Refused}
+use Rattle.record.specs.Readings.{Reading}
+use Rattle.record.specs.Takes.{Taken}
+use Rattle.record.specs.Takes.{Whole, Stopped, Overlong}
 use Rattle.record.proofs.Takes.{take_whole}
 use Rattle.unit.proofs.Runs.Going.{whole-ok}
 use Rattle.marks.specs.Marks.{records_in, whole_records}
@@ -43,7 +43,7 @@ module _ (b : ℕ) (log : List ℕ) where
   unfolding records_in
   records-next k r e = ap (λ t. on_taken t (λ stop. 0) (λ k. suc (records_in b (drop k log)))) e
 
-  pub records-stop : (stop : ℕ) → (take_one log ≡ Stopped stop) ⊎ (take_one log ≡ Refused stop) → records_in (suc b) log ≡ 0
+  pub records-stop : (stop : ℕ) → (take_one log ≡ Stopped stop) ⊎ (take_one log ≡ Overlong stop) → records_in (suc b) log ≡ 0
   unfolding records_in
   records-stop stop (inl e) = ap (λ t. on_taken t (λ stop. 0) (λ k. suc (records_in b (drop k log)))) e
   records-stop stop (inr e) = ap (λ t. on_taken t (λ stop. 0) (λ k. suc (records_in b (drop k log)))) e
@@ -58,7 +58,7 @@ records-case P b log none next = by (take_one log) refl
     by : (front : Taken) → take_one log ≡ front → P (records_in (suc b) log)
     by (Whole k r) e = subst P (sym (records-next b log k r e)) (next k r e)
     by (Stopped stop) e = subst P (sym (records-stop b log stop (inl e))) none
-    by (Refused r) e = subst P (sym (records-stop b log r (inr e))) none
+    by (Overlong r) e = subst P (sym (records-stop b log r (inr e))) none
 
 -- each counted record has a byte of its own
 records-few : (b : ℕ) (log : List ℕ) → records_in b log ≤ length log
@@ -84,7 +84,7 @@ records-most (suc b) (suc c) log less = by (take_one log) refl (λ k. records-mo
         → records_in (suc b) log ≡ min (suc b) (records_in (suc c) log)
     by (Whole k r) e later = omega (arith, records-next b log k r e, records-next c log k r e, later k)
     by (Stopped stop) e later = omega (arith, records-stop b log stop (inl e), records-stop c log stop (inl e))
-    by (Refused r) e later = omega (arith, records-stop b log r (inr e), records-stop c log r (inr e))
+    by (Overlong r) e later = omega (arith, records-stop b log r (inr e), records-stop c log r (inr e))
 
 pub records-min : (b : ℕ) (log : List ℕ) → records_in b log ≡ min b (whole_records log)
 records-min b log =

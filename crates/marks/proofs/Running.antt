@@ -8,8 +8,8 @@ use native.Mathlib.Omega.{arith}
 use lib.ListN.{length, take, drop, length-drop}
 use lib.Seq.{take_all}
 use Rattle.record.specs.Takes.{longest_log, taken}
-use Rattle.record.specs.declared.take.Taken.{Taken}
-use Rattle.record.specs.declared.take.Taken.TheVariants.{Whole, Stopped, Refused}
+use Rattle.record.specs.Takes.{Taken}
+use Rattle.record.specs.Takes.{Whole, Stopped, Overlong}
 use Rattle.unit.specs.States.{sound}
 use Rattle.unit.specs.OnRecords.{action_room, on_record}
 use Rattle.unit.specs.Runs.{counted, fresh, go, run}
@@ -32,7 +32,7 @@ go-within (suc budget) t log = by (taken log) refl (go-within budget)
         → ((u : Tally) (l : List ℕ) → (go budget u l).tally.offset ≤ u.offset + length l)
         → (go (suc budget) t log).tally.offset ≤ t.offset + length log
     by (Stopped stop) e later = omega (arith, ap (λ (u : Tally). u.offset) ((go-ends t log).1 budget stop e).0)
-    by (Refused r) e later =
+    by (Overlong r) e later =
         omega (arith, ap (λ (x : Report). x.tally.offset) (go-refused t (suc budget) (some budget) log r e))
     by (Whole k r) e later =
         let o = on_record t.state (take k log) action_room in

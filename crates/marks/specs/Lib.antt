@@ -1,4 +1,5 @@
 pub mod Marks
+pub mod Beginning
 pub mod Building
 pub mod Lookup
 pub mod LogMarks

@@ -4,22 +4,28 @@ ghost use Rattle.wire.specs.Blocks.{blocks};
 ghost use Rattle.record.specs.Takes.{longest_log};
 ghost use Rattle.unit.specs.States.{sound};
 ghost use Rattle.marks.specs.Marks.{mark_size, whole_records, marks_from};
+ghost use Rattle.marks.specs.Beginning.{extend_refused};
 ghost use Rattle.marks.specs.Building.{extended, extended_room, built, built_room};
 
-use crate::mark::{Begun, MARK_EVERY, MARK_SIZE, begun_at, put_mark};
+use crate::mark::{Begun, MARK_EVERY, MARK_SIZE, begins_at, put_mark};
 use place::limits::Limits;
 use record::read::length_of;
-use record::take::LONGEST_LOG;
 use unit::run::run;
-use unit::start::cold_start;
-use unit::state::State;
-use wire::refusal::{ACCEPTED, LOG_TOO_LONG, NO_ROOM};
+use wire::refusal::{ACCEPTED, Refusal};
 
 // What building and extending answer: 0 or the number of the refusal, and how many marks there are.
 #[derive(Clone, Copy)]
 pub struct Marked {
     pub code: u8,
     pub marks: usize,
+}
+
+impl Marked {
+    fn refused(code: u8) -> Marked
+        ensures { result ≡ extend_refused code }
+    {
+        Marked { code, marks: 0 }
+    }
 }
 
 // The records of a log from an offset on, before the stop, counted by their lengths alone.
@@ -57,15 +63,13 @@ fn fill(begun: Begun, log: &[u8], room: &mut [u8], held: usize, count: usize)
 {
     let mut state = begun.state;
     let mut at = begun.offset;
-    let mut i = 0;
-    while i < count {
+    for i in 0..count {
         let report = run(state, &log[at..], MARK_EVERY);
         let tally = report.tally;
         let next = tally.state;
         at += tally.offset;
         put_mark(room, MARK_SIZE * (held + i), at, next);
         state = next;
-        i += 1;
     }
 }
 
@@ -75,32 +79,14 @@ pub fn extend(limits: Limits, log: &[u8], held: usize, room: &mut [u8]) -> Marke
     ensures { (result ≡ extended limits log.now held room.old)
         × (room.new ≡ extended_room limits log.now held room.old) }
 {
-    let started = cold_start(limits);
-    let refusal = started.code;
-    let start = started.state;
-    if refusal != ACCEPTED {
-        return Marked {
-            code: refusal,
-            marks: 0,
-        };
-    }
-    if log.len() > LONGEST_LOG {
-        return Marked {
-            code: LOG_TOO_LONG,
-            marks: 0,
-        };
-    }
-    let begun = begun_at(start, log, room, held, NO_ROOM);
+    let begun = begins_at(limits, log, room, held, Refusal::NoRoom.number());
     let code = begun.code;
     if code != ACCEPTED {
-        return Marked { code, marks: 0 };
+        return Marked::refused(code);
     }
     let count = count_records(log, begun.offset) / MARK_EVERY;
     if room.len() / MARK_SIZE - held < count {
-        return Marked {
-            code: NO_ROOM,
-            marks: 0,
-        };
+        return Marked::refused(Refusal::NoRoom.number());
     }
     fill(begun, log, room, held, count);
     Marked {

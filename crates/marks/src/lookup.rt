@@ -2,13 +2,11 @@
 ghost use Rattle.std.specs.Prelude.{◌≡◌};
 ghost use Rattle.marks.specs.Lookup.{look_refused, looked_up};
 
-use crate::mark::{MARK_EVERY, begun_at, refused_state};
+use crate::mark::{MARK_EVERY, begins_at, refused_state};
 use place::limits::Limits;
-use record::take::LONGEST_LOG;
 use unit::run::run;
-use unit::start::cold_start;
 use unit::state::State;
-use wire::refusal::{ACCEPTED, LOG_TOO_LONG};
+use wire::refusal::ACCEPTED;
 
 // Refusal 19: the mark that is called for is not there, or the stop comes before the record.
 pub const NO_MARK: u8 = 19;
@@ -35,28 +33,12 @@ impl Looked {
     }
 }
 
-// A count as a number of 64 bits.
-fn wide(n: u32) -> usize
-    ensures { result ≡ n }
-{
-    n as usize
-}
-
 // Looks up the state after record n. Refusals 13; 12; 19 where the mark that n calls for is not there; 11 where that mark has another kind,
 // an offset past the log or an image that is not sound; 19 where the stop comes before record n. It reads one mark and at most 255 records.
 pub fn look_up(limits: Limits, log: &[u8], marks: &[u8], n: usize) -> Looked
     ensures { result ≡ looked_up limits log.now marks.now n }
 {
-    let started = cold_start(limits);
-    let refusal = started.code;
-    let start = started.state;
-    if refusal != ACCEPTED {
-        return Looked::refused(refusal);
-    }
-    if log.len() > LONGEST_LOG {
-        return Looked::refused(LOG_TOO_LONG);
-    }
-    let begun = begun_at(start, log, marks, n / MARK_EVERY, NO_MARK);
+    let begun = begins_at(limits, log, marks, n / MARK_EVERY, NO_MARK);
     let code = begun.code;
     if code != ACCEPTED {
         return Looked::refused(code);
@@ -66,7 +48,7 @@ pub fn look_up(limits: Limits, log: &[u8], marks: &[u8], n: usize) -> Looked
     let report = run(begun.state, &log[offset..], steps);
     let tally = report.tally;
     let state = tally.state;
-    if wide(tally.read) != steps {
+    if tally.read as usize != steps {
         return Looked::refused(NO_MARK);
     }
     Looked {

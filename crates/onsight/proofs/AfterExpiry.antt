@@ -7,6 +7,7 @@ use mathlib.Core.List.{List, [], ◌∷◌, ◌++◌}
 use Prim.Native.Nat.{ℕ}
 use native.Mathlib.Omega.{arith}
 use lib.ListN.{length, replicate}
+use Rattle.std.specs.Prelude.{None}
 use Rattle.onsight.specs.Cases.{by_state}
 use Rattle.onsight.specs.Numbers.{accepted, not_taken_here}
 use Rattle.onsight.specs.Procedures.{cell, fresh, taken, step, service_brake}
@@ -16,19 +17,18 @@ use Rattle.onsight.specs.declared.event.Event.{Event}
 use Rattle.onsight.specs.declared.event.Event.TheVariants.{Acknowledgement, Expiry}
 use Rattle.onsight.specs.declared.procedure.State.{State}
 use Rattle.onsight.specs.declared.procedure.State.TheVariants.{Late, Braking, Done}
-use Rattle.onsight.specs.declared.procedure.Cell.TheVariants.{No}
 use Rattle.onsight.proofs.Again.Rows.{late-answers}
 use Rattle.onsight.proofs.Again.Tests.{is_acknowledgement-means}
 use Rattle.onsight.proofs.WholeTable.{line-rule, taken-rule, by-cell}
 use Rattle.onsight.proofs.Histories.{after-append, codes-append, NoneTaken, none-taken, kept}
 
 -- Braking takes nothing but the acknowledgement
-braking-shut : (e : Event) → not (is_acknowledgement e) ≡ true → cell Braking e ≡ No
+braking-shut : (e : Event) → not (is_acknowledgement e) ≡ true → cell Braking e ≡ None
 braking-shut e other =
     by (is_acknowledgement e) other
-    (line-rule (λ f. cond (is_acknowledgement f) No (cell Braking f)) (λ f. No) refl e)
+    (line-rule (λ f. cond (is_acknowledgement f) None (cell Braking f)) (λ f. None) refl e)
   where
-    by : (b : Bool) → not b ≡ true → cond b No (cell Braking e) ≡ No → cell Braking e ≡ No
+    by : (b : Bool) → not b ≡ true → cond b None (cell Braking e) ≡ None → cell Braking e ≡ None
     by true h shut = absurd (true≢false (sym h))
     by false h shut = shut
 

@@ -4,18 +4,18 @@ use mathlib.Core.Path.{◌≡◌, refl, ap, ◌∙◌}
 use mathlib.Core.Bool.{false, cond, ◌&&◌}
 use mathlib.Core.List.{List, [], ◌∷◌}
 use lib.Dec.{eqb}
+use Rattle.std.specs.Prelude.{Some}
 use Rattle.onsight.specs.Numbers.{accepted}
 use Rattle.onsight.specs.Procedures.{cell, fresh, service_brake}
 use Rattle.onsight.specs.Histories.{after}
 use Rattle.onsight.specs.HistoryWords.{met, accepted_of, accepted_in, last_is, is_late, is_expiry, expiry_in_late}
 use Rattle.onsight.specs.declared.event.Event.{Event}
 use Rattle.onsight.specs.declared.procedure.State.{State}
-use Rattle.onsight.specs.declared.procedure.Cell.TheVariants.{To}
 use Rattle.onsight.proofs.WholeTable.{taken-rule, by-cell}
 
 -- an event that is taken leads to the brake exactly where it is an expiry in Late
 brake-next : (s : State) (e : Event) (next : State)
-    → cell s e ≡ To next
+    → cell s e ≡ Some next
     → service_brake next ≡ (is_late s && is_expiry e)
 brake-next = taken-rule (λ s e next. service_brake next) (λ s e. is_late s && is_expiry e) refl
 

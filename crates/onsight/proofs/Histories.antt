@@ -7,14 +7,13 @@ use mathlib.Core.List.{List, [], ◌∷◌, ◌++◌, map, map-append}
 use Prim.Native.Nat.{ℕ}
 use native.Mathlib.Omega.{arith}
 use lib.ListN.{length, replicate}
+use Rattle.std.specs.Prelude.{Option, Some, None}
 use Rattle.onsight.specs.Numbers.{not_taken_here}
 use Rattle.onsight.specs.Procedures.{cell, answered, step}
 use Rattle.onsight.specs.Histories.{after}
 use Rattle.onsight.specs.HistoryWords.{met, codes, every}
 use Rattle.onsight.specs.declared.event.Event.{Event}
 use Rattle.onsight.specs.declared.procedure.State.{State}
-use Rattle.onsight.specs.declared.procedure.Cell.{Cell}
-use Rattle.onsight.specs.declared.procedure.Cell.TheVariants.{No, To}
 use Rattle.onsight.proofs.Again.Meanings.{met-append, and_left, and_right}
 use Rattle.onsight.proofs.WholeTable.{drawn, on_taken, taken-rule, by-cell}
 
@@ -39,20 +38,20 @@ abbrev pub NoneTaken : State → List Event → Type 0
 NoneTaken s es = (codes s es ≡ replicate (length es) not_taken_here) × (after s es ≡ s)
 
 -- so it is where a state takes none of the events that pass a test, and all pass it
-module _ (s : State) (test : Event → Bool) (shut : (e : Event) → test e ≡ true → cell s e ≡ No) where
+module _ (s : State) (test : Event → Bool) (shut : (e : Event) → test e ≡ true → cell s e ≡ None) where
   pub none-taken : (es : List Event) → every test es ≡ true → NoneTaken s es
   unfolding after met every
   none-taken [] h = (refl, refl)
   none-taken (e ∷ es) h =
       by (cell s e) (shut e (and_left (test e) (every test es) h)) (none-taken es (and_right (test e) (every test es) h))
     where
-      by : (c : Cell)
-          → c ≡ No
+      by : (c : Option State)
+          → c ≡ None
           → NoneTaken s es
           → ((answered s c).code ∷ codes (answered s c).state es ≡ replicate (length (e ∷ es)) not_taken_here)
           × (after (answered s c).state es ≡ s)
-      by No is rest = (ap (λ l. not_taken_here ∷ l) rest.0, rest.1)
-      by (To next) is rest = absurd (let z : ◌≡◌ {A = ℕ} 0 1 = cc in omega arith)
+      by None is rest = (ap (λ l. not_taken_here ∷ l) rest.0, rest.1)
+      by (Some next) is rest = absurd (let z : ◌≡◌ {A = ℕ} 0 1 = cc in omega arith)
 
 -- a test that every event taken keeps is kept by every history
 module _
@@ -62,7 +61,7 @@ module _
     next-kept : (s : State) (e : Event)
         → test s ≡ true
         → (next : State)
-        → cell s e ≡ To next
+        → cell s e ≡ Some next
         → test next ≡ true
     next-kept s e h next gives =
         sym (ap (λ b. cond b (test next) true) h)

@@ -5,6 +5,7 @@ use mathlib.Core.Bool.{Bool, true, false, cond, ◌||◌}
 use mathlib.Core.List.{List, [], ◌∷◌, ◌++◌}
 use lib.Dec.{eqb}
 use lib.ListN.{length, replicate}
+use Rattle.std.specs.Prelude.{None}
 use Rattle.onsight.specs.Numbers.{accepted, not_taken_here}
 use Rattle.onsight.specs.Procedures.{cell, fresh, os_in_force, service_brake}
 use Rattle.onsight.specs.Histories.{after}
@@ -12,7 +13,6 @@ use Rattle.onsight.specs.HistoryWords.{met, codes, accepted_of, accepted_in, any
 use Rattle.onsight.specs.declared.event.Event.{Event}
 use Rattle.onsight.specs.declared.procedure.State.{State}
 use Rattle.onsight.specs.declared.procedure.State.TheVariants.{Done}
-use Rattle.onsight.specs.declared.procedure.Cell.TheVariants.{No}
 use Rattle.onsight.proofs.Again.Rows.{service_brake-states}
 use Rattle.onsight.proofs.WholeTable.{drawn, on_taken, line-rule, taken-rule, by-cell}
 use Rattle.onsight.proofs.Histories.{after-append, codes-append, every-all, NoneTaken, none-taken, kept}
@@ -80,7 +80,7 @@ in-force-stays es fs h = ap os_in_force (after-append fresh es fs) ∙ kept os_i
 -- a history that comes to Done, and goes on
 module _ (es fs : List Event) (done : after fresh es ≡ Done) where
   ended : NoneTaken Done fs
-  ended = none-taken Done (λ e. true) (λ e h. line-rule (cell Done) (λ f. No) refl e) fs (every-all fs)
+  ended = none-taken Done (λ e. true) (λ e h. line-rule (cell Done) (λ f. None) refl e) fs (every-all fs)
 
   -- Done takes nothing
   -- promise

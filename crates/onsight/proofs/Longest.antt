@@ -8,6 +8,7 @@ use native.Mathlib.Omega.{arith}
 use lib.Dec.{eqb, ltb}
 use lib.ListN.{length}
 use borrow.Author.Tests.{ltb-true}
+use Rattle.std.specs.Prelude.{Some}
 use Rattle.onsight.specs.Numbers.{accepted}
 use Rattle.onsight.specs.Procedures.{cell, fresh}
 use Rattle.onsight.specs.Histories.{after}
@@ -15,7 +16,6 @@ use Rattle.onsight.specs.HistoryWords.{met, accepted_of, accepted_in, most_accep
 use Rattle.onsight.specs.declared.event.Event.{Event}
 use Rattle.onsight.specs.declared.procedure.State.{State}
 use Rattle.onsight.specs.declared.procedure.State.TheVariants.{Idle, Waiting, Asked, Late, Braking, Done}
-use Rattle.onsight.specs.declared.procedure.Cell.TheVariants.{To}
 use Rattle.onsight.proofs.WholeTable.{taken-rule, by-cell}
 
 -- how many events can still be accepted
@@ -28,7 +28,7 @@ left Braking = 1
 left Done = 0
 
 -- each event that is taken leaves fewer
-left_less : (s : State) (e : Event) (next : State) → cell s e ≡ To next → left next < left s
+left_less : (s : State) (e : Event) (next : State) → cell s e ≡ Some next → left next < left s
 left_less s e next gives =
     ltb-true (left next) (left s) (taken-rule (λ s e next. ltb (left next) (left s)) (λ s e. true) refl s e next gives)
 

@@ -5,6 +5,7 @@ use mathlib.Core.Path.{◌≡◌, refl, sym, ap, ◌∙◌}
 use mathlib.Core.List.{List, [], ◌∷◌}
 use Prim.Native.Nat.{ℕ}
 use lib.ListN.{get_or}
+use Rattle.std.specs.Prelude.{Option, Some, None}
 use Rattle.onsight.specs.Numbers.{state_number}
 use Rattle.onsight.specs.Procedures.{cell, taken, refused, answered}
 use Rattle.onsight.specs.declared.event.Area.TheVariants.{Ahead, Entered}
@@ -13,8 +14,6 @@ use Rattle.onsight.specs.declared.event.Event.{Event}
 use Rattle.onsight.specs.declared.event.Event.TheVariants.{Profile, Window, Start, Acknowledgement, Expiry}
 use Rattle.onsight.specs.declared.procedure.State.{State}
 use Rattle.onsight.specs.declared.procedure.State.TheVariants.{Idle, Waiting, Asked, Late, Braking, Done}
-use Rattle.onsight.specs.declared.procedure.Cell.{Cell}
-use Rattle.onsight.specs.declared.procedure.Cell.TheVariants.{No, To}
 use Rattle.onsight.specs.declared.procedure.Answer.{Answer}
 use Rattle.onsight.proofs.Again.Each.{by_state}
 
@@ -79,23 +78,23 @@ pub rule : {A : Type 0} (f g : State → Event → A) → drawn f ≡ drawn g �
 rule f g same s = line-rule (f s) (g s) (sym (drawn-at f s) ∙ ap (λ t. get_or t (state_number s) []) same ∙ drawn-at g s)
 
 -- what is said of the state that a cell gives; where the event is not taken, another thing
-abbrev pub on_taken : {A : Type 0} → (State → A) → A → Cell → A
-on_taken f other No = other
-on_taken f other (To next) = f next
+abbrev pub on_taken : {A : Type 0} → (State → A) → A → Option State → A
+on_taken f other None = other
+on_taken f other (Some next) = f next
 
 -- a rule of the events that are taken
 pub taken-rule : {A : Type 0} (f : State → Event → State → A) (g : State → Event → A)
     → drawn (λ s e. on_taken (f s e) (g s e) (cell s e)) ≡ drawn g
     → (s : State) (e : Event) (next : State)
-    → cell s e ≡ To next
+    → cell s e ≡ Some next
     → f s e next ≡ g s e
 taken-rule f g same s e next gives =
     sym (ap (on_taken (f s e) (g s e)) gives) ∙ rule (λ s e. on_taken (f s e) (g s e) (cell s e)) g same s e
 
 -- what holds of a refusal, and of every state that the cell gives, holds of the answer
-pub by-cell : (P : Answer → Type 0) (s : State) (c : Cell)
-    → (c ≡ No → P (refused s))
-    → ((next : State) → c ≡ To next → P (taken next))
+pub by-cell : (P : Answer → Type 0) (s : State) (c : Option State)
+    → (c ≡ None → P (refused s))
+    → ((next : State) → c ≡ Some next → P (taken next))
     → P (answered s c)
-by-cell P s No stays goes = stays refl
-by-cell P s (To next) stays goes = goes next refl
+by-cell P s None stays goes = stays refl
+by-cell P s (Some next) stays goes = goes next refl

@@ -3,34 +3,26 @@ ghost use Rattle.std.specs.Prelude.{◌≡◌};
 ghost use Rattle.onsight.specs.Procedures.{cell};
 ghost use Rattle.onsight.specs.declared.event.Event.TheVariants.{Acknowledgement, Expiry};
 
-use crate::procedure::{Cell, State};
+use crate::procedure::State;
 
 impl State {
     // "Asked, Late and Braking: driver acknowledgement gives Done."
-    pub(crate) fn acknowledged(self) -> Cell
+    pub(crate) fn acknowledged(self) -> Option<State>
         ensures { result ≡ cell self Acknowledgement }
     {
         match self {
-            State::Idle => Cell::No,
-            State::Waiting => Cell::No,
-            State::Asked => Cell::To(State::Done),
-            State::Late => Cell::To(State::Done),
-            State::Braking => Cell::To(State::Done),
-            State::Done => Cell::No,
+            State::Asked | State::Late | State::Braking => Some(State::Done),
+            State::Idle | State::Waiting | State::Done => None,
         }
     }
 
     // "Late: timer expiry gives Braking."
-    pub(crate) fn expired(self) -> Cell
+    pub(crate) fn expired(self) -> Option<State>
         ensures { result ≡ cell self Expiry }
     {
         match self {
-            State::Idle => Cell::No,
-            State::Waiting => Cell::No,
-            State::Asked => Cell::No,
-            State::Late => Cell::To(State::Braking),
-            State::Braking => Cell::No,
-            State::Done => Cell::No,
+            State::Late => Some(State::Braking),
+            State::Idle | State::Waiting | State::Asked | State::Braking | State::Done => None,
         }
     }
 }

@@ -2,20 +2,22 @@
 ghost use Rattle.std.specs.Prelude.{◌≡◌};
 ghost use Rattle.onsight.specs.Numbers.{area_number, mode_number, event_number};
 
+use std::fmt;
+
 // Where the area of a profile lies.
 #[derive(Clone, Copy)]
 pub enum Area {
-    Ahead,
-    Entered,
+    Ahead = 0,
+    Entered = 1,
 }
 
 // The mode when the profile comes: On-Sight, stand-by, post-trip, or another.
 #[derive(Clone, Copy)]
 pub enum Mode {
-    OS,
-    SB,
-    PT,
-    Another,
+    OS = 0,
+    SB = 1,
+    PT = 2,
+    Another = 3,
 }
 
 // What the procedure is told.
@@ -38,10 +40,7 @@ impl Area {
     pub fn number(self) -> u8
         ensures { result ≡ area_number self }
     {
-        match self {
-            Area::Ahead => 0,
-            Area::Entered => 1,
-        }
+        self as u8
     }
 }
 
@@ -50,12 +49,7 @@ impl Mode {
     pub fn number(self) -> u8
         ensures { result ≡ mode_number self }
     {
-        match self {
-            Mode::OS => 0,
-            Mode::SB => 1,
-            Mode::PT => 2,
-            Mode::Another => 3,
-        }
+        self as u8
     }
 }
 
@@ -65,11 +59,43 @@ impl Event {
         ensures { result ≡ event_number self }
     {
         match self {
-            Event::Profile { area: _, mode: _ } => 0,
+            Event::Profile { .. } => 0,
             Event::Window => 1,
             Event::Start => 2,
             Event::Acknowledgement => 3,
             Event::Expiry => 4,
+        }
+    }
+}
+
+impl fmt::Display for Area {
+    fn fmt<W: fmt::Write>(&self, f: &mut fmt::Formatter<W>) -> fmt::Result {
+        f.write_str(match self {
+            Area::Ahead => "ahead",
+            Area::Entered => "entered",
+        })
+    }
+}
+
+impl fmt::Display for Mode {
+    fn fmt<W: fmt::Write>(&self, f: &mut fmt::Formatter<W>) -> fmt::Result {
+        f.write_str(match self {
+            Mode::OS => "OS",
+            Mode::SB => "SB",
+            Mode::PT => "PT",
+            Mode::Another => "another",
+        })
+    }
+}
+
+impl fmt::Display for Event {
+    fn fmt<W: fmt::Write>(&self, f: &mut fmt::Formatter<W>) -> fmt::Result {
+        match self {
+            Event::Profile { area, mode } => write!(f, "{area}/{mode}"),
+            Event::Window => write!(f, "window"),
+            Event::Start => write!(f, "start"),
+            Event::Acknowledgement => write!(f, "acknowledgement"),
+            Event::Expiry => write!(f, "expiry"),
         }
     }
 }

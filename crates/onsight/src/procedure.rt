@@ -4,33 +4,37 @@ ghost use Rattle.onsight.specs.Numbers.{state_number};
 ghost use Rattle.onsight.specs.Procedures.{fresh, cell, answered, step, os_in_force, service_brake};
 
 use crate::event::Event;
+use std::fmt;
 
 // What is answered where nothing is refused.
-const ACCEPTED: u8 = 0;
+pub const ACCEPTED: u8 = 0;
 
 // The one refusal: event not taken here.
-const NOT_TAKEN_HERE: u8 = 14;
+pub const NOT_TAKEN_HERE: u8 = 14;
 
 // The state of one procedure.
-#[derive(Clone, Copy)]
+#[derive(Clone, Copy, PartialEq, Eq)]
 pub enum State {
-    Idle,
-    Waiting,
-    Asked,
-    Late,
-    Braking,
-    Done,
+    Idle = 0,
+    Waiting = 1,
+    Asked = 2,
+    Late = 3,
+    Braking = 4,
+    Done = 5,
 }
 
-// A cell of the procedure's table: the event is not taken, or the state that it gives.
-#[derive(Clone, Copy)]
-pub(crate) enum Cell {
-    No,
-    To(State),
-}
+// Every state, the fresh one first.
+pub const STATES: [State; 6] = [
+    State::Idle,
+    State::Waiting,
+    State::Asked,
+    State::Late,
+    State::Braking,
+    State::Done,
+];
 
 // What a step answers: 0 or the number of the refusal, and the next state.
-#[derive(Clone, Copy)]
+#[derive(Clone, Copy, PartialEq, Eq)]
 pub struct Answer {
     pub code: u8,
     pub state: State,
@@ -48,46 +52,25 @@ impl State {
     pub fn number(self) -> u8
         ensures { result ≡ state_number self }
     {
-        match self {
-            State::Idle => 0,
-            State::Waiting => 1,
-            State::Asked => 2,
-            State::Late => 3,
-            State::Braking => 4,
-            State::Done => 5,
-        }
+        self as u8
     }
 
     // Whether the mode On-Sight is in force.
     pub fn os_in_force(self) -> bool
         ensures { result ≡ os_in_force self }
     {
-        match self {
-            State::Idle => false,
-            State::Waiting => false,
-            State::Asked => false,
-            State::Late => true,
-            State::Braking => true,
-            State::Done => true,
-        }
+        matches!(self, State::Late | State::Braking | State::Done)
     }
 
     // Whether the service brake is on.
     pub fn service_brake(self) -> bool
         ensures { result ≡ service_brake self }
     {
-        match self {
-            State::Idle => false,
-            State::Waiting => false,
-            State::Asked => false,
-            State::Late => false,
-            State::Braking => true,
-            State::Done => false,
-        }
+        matches!(self, State::Braking)
     }
 
-    // The cell of the table at this state and an event.
-    fn cell(self, event: Event) -> Cell
+    // The cell of the table at this state and an event: the state that the event gives, none where it is not taken.
+    fn cell(self, event: Event) -> Option<State>
         ensures { result ≡ cell self event }
     {
         match event {
@@ -100,15 +83,15 @@ impl State {
     }
 
     // What a cell makes of this state.
-    fn answer(self, cell: Cell) -> Answer
+    fn answer(self, cell: Option<State>) -> Answer
         ensures { result ≡ answered self cell }
     {
         match cell {
-            Cell::No => Answer {
+            None => Answer {
                 code: NOT_TAKEN_HERE,
                 state: self,
             },
-            Cell::To(next) => Answer {
+            Some(next) => Answer {
                 code: ACCEPTED,
                 state: next,
             },
@@ -120,5 +103,18 @@ impl State {
         ensures { result ≡ step self event }
     {
         self.answer(self.cell(event))
+    }
+}
+
+impl fmt::Display for State {
+    fn fmt<W: fmt::Write>(&self, f: &mut fmt::Formatter<W>) -> fmt::Result {
+        f.write_str(match self {
+            State::Idle => "Idle",
+            State::Waiting => "Waiting",
+            State::Asked => "Asked",
+            State::Late => "Late",
+            State::Braking => "Braking",
+            State::Done => "Done",
+        })
     }
 }

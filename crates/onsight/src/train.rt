@@ -3,34 +3,26 @@ ghost use Rattle.std.specs.Prelude.{◌≡◌};
 ghost use Rattle.onsight.specs.Procedures.{cell};
 ghost use Rattle.onsight.specs.declared.event.Event.TheVariants.{Window, Start};
 
-use crate::procedure::{Cell, State};
+use crate::procedure::State;
 
 impl State {
     // "Waiting: front and speed in the window gives Asked."
-    pub(crate) fn in_window(self) -> Cell
+    pub(crate) fn in_window(self) -> Option<State>
         ensures { result ≡ cell self Window }
     {
         match self {
-            State::Idle => Cell::No,
-            State::Waiting => Cell::To(State::Asked),
-            State::Asked => Cell::No,
-            State::Late => Cell::No,
-            State::Braking => Cell::No,
-            State::Done => Cell::No,
+            State::Waiting => Some(State::Asked),
+            State::Idle | State::Asked | State::Late | State::Braking | State::Done => None,
         }
     }
 
     // "Waiting and Asked: the safe front passing the start gives Late."
-    pub(crate) fn past_start(self) -> Cell
+    pub(crate) fn past_start(self) -> Option<State>
         ensures { result ≡ cell self Start }
     {
         match self {
-            State::Idle => Cell::No,
-            State::Waiting => Cell::To(State::Late),
-            State::Asked => Cell::To(State::Late),
-            State::Late => Cell::No,
-            State::Braking => Cell::No,
-            State::Done => Cell::No,
+            State::Waiting | State::Asked => Some(State::Late),
+            State::Idle | State::Late | State::Braking | State::Done => None,
         }
     }
 }

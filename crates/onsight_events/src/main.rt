@@ -3,7 +3,7 @@
 ghost use Rattle.std.specs.Prelude.{◌≤◌};
 
 use onsight::event::{Area, Event, Mode};
-use onsight::procedure::State;
+use onsight::procedure::{Answer, State};
 use std::io;
 
 const EVENTS: u64 = 1000000;
@@ -42,44 +42,34 @@ fn event_of(k: u64) -> Event {
     }
 }
 
-fn one(on: bool) -> u64
-    ensures { result ≤ 1 }
-{
-    if on { 1 } else { 0 }
-}
-
 // What an answer adds to the sum.
-fn weight(code: u8, state: State) -> u64
+fn weight(answer: Answer) -> u64
     ensures { result ≤ 4096 }
 {
-    let number = state.number();
-    let braking = one(state.service_brake());
-    let in_force = one(state.os_in_force());
-    code as u64 + number as u64 + 100 * braking + 1000 * in_force
+    let state = answer.state;
+    let braking = u64::from(state.service_brake());
+    let in_force = u64::from(state.os_in_force());
+    u64::from(answer.code) + u64::from(state.number()) + 100 * braking + 1000 * in_force
 }
 
 // A procedure that is done starts afresh with every third event.
 fn restarted(state: State, x: u64) -> State {
-    if state.number() == 5 {
-        if x % 3 == 0 {
-            return State::fresh();
-        }
+    if state == State::Done && x % 3 == 0 {
+        State::fresh()
+    } else {
+        state
     }
-    state
 }
 
 fn main(rt: HostRuntime) -> io::Result<()> {
     let mut x: u64 = 1;
     let mut state = State::fresh();
     let mut sum: u64 = 0;
-    let mut i: u64 = 0;
-    while i < EVENTS {
+    for _ in 0..EVENTS {
         x = drawn(x);
         let answer = state.step(event_of(x / 65536 % 12));
-        let next = answer.state;
-        sum = (sum + weight(answer.code, next)) % 1000000007;
-        state = restarted(next, x);
-        i += 1;
+        sum = (sum + weight(answer)) % 1000000007;
+        state = restarted(answer.state, x);
     }
     println!(rt; "{sum}")
 }

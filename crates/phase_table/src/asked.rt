@@ -3,11 +3,12 @@ use place::limits::Limits;
 use place::phase::{FIRST_TRY, Phase};
 use place::place::{Direction, Place};
 use record::partner::{Partner, RBC};
-use record::read::{KIND_END_ALL, KIND_MESSAGE, KIND_ORDER};
+use record::read::{
+    KIND_DROP, KIND_END_ALL, KIND_LOSS, KIND_MESSAGE, KIND_ORDER, KIND_TIMEOUT, KIND_UP,
+};
 use unit::last::Last;
 use unit::state::{Marks, State, Train};
-use wire::join::{and, negated};
-use wire::refusal::NOT_TAKEN;
+use wire::refusal::Refusal;
 
 // The number n of tries, and the X numbers that are supported.
 const TRIES: u8 = 3;
@@ -17,14 +18,14 @@ const LOWEST: u8 = 1;
 const HIGHEST: u8 = 2;
 
 // The messages: a version, a call, the end of a session acknowledged.
-const VERSION: u8 = 32;
+pub(crate) const VERSION: u8 = 32;
 
 pub(crate) const CALL: u8 = 38;
 
 pub(crate) const ENDED: u8 = 39;
 
 // A version of the lowest X, and one of an X over the highest.
-pub(crate) const SUPPORTED: u8 = 16;
+const SUPPORTED: u8 = 16;
 
 const UNSUPPORTED: u8 = 48;
 
@@ -33,13 +34,45 @@ const NUMBER: u8 = 1;
 
 const TRACKSIDE: u8 = 1;
 
-// An event: the kind of its record, and of a message the number and the version.
+// An event of the partner, other than its order.
 #[derive(Clone, Copy)]
-pub(crate) struct Heard {
-    pub(crate) kind: u8,
-    pub(crate) message: u8,
-    pub(crate) version: u8,
+pub(crate) enum Heard {
+    Drop,
+    Up,
+    Loss,
+    Timeout,
+    Version(u8),
+    Call,
+    Ended,
 }
+
+// The events that a phase takes, each a column of the table.
+pub(crate) const COLUMNS: [Heard; 6] = [
+    Heard::Drop,
+    Heard::Up,
+    Heard::Loss,
+    Heard::Timeout,
+    Heard::Version(SUPPORTED),
+    Heard::Ended,
+];
+
+// A row of the table: a phase, with any tries.
+#[derive(Clone, Copy)]
+pub(crate) enum Row {
+    Connecting,
+    Contacting,
+    Open,
+    Lost,
+    Ending,
+}
+
+pub(crate) const ROWS: [Row; 5] = [
+    Row::Connecting,
+    Row::Contacting,
+    Row::Open,
+    Row::Lost,
+    Row::Ending,
+];
 
 // What a step answers: the code, the numbers of its first two actions, 0 for none, and the partner's place.
 #[derive(Clone, Copy)]
@@ -58,27 +91,39 @@ pub(crate) struct Cell {
     pub(crate) other: Said,
 }
 
-pub(crate) fn signal(kind: u8) -> Heard {
-    Heard {
-        kind,
-        message: 0,
-        version: 0,
+impl Row {
+    // The phase, with so many tries.
+    fn phase(self, tries: u8) -> Phase {
+        match self {
+            Row::Connecting => Phase::Connecting(tries),
+            Row::Contacting => Phase::Contacting(tries),
+            Row::Open => Phase::Open,
+            Row::Lost => Phase::Lost(tries),
+            Row::Ending => Phase::Ending(tries),
+        }
     }
-}
 
-pub(crate) fn message(number: u8) -> Heard {
-    Heard {
-        kind: KIND_MESSAGE,
-        message: number,
-        version: 0,
+    // A place whose partner is in this phase, with so many tries.
+    fn place(self, tries: u8) -> Place {
+        held(self.phase(tries))
     }
-}
 
-pub(crate) fn with_version(version: u8) -> Heard {
-    Heard {
-        kind: KIND_MESSAGE,
-        message: VERSION,
-        version,
+    // The same with the first try.
+    pub(crate) fn early(self) -> Place {
+        self.place(FIRST_TRY)
+    }
+
+    pub(crate) fn answers(self, heard: Heard) -> Cell {
+        Cell {
+            early: hear(self.early(), heard),
+            late: hear(self.place(TRIES), heard),
+            other: hear(self.early(), heard.unsupported()),
+        }
+    }
+
+    // Whether the event does here what an end all does.
+    fn closes(self, heard: Heard) -> bool {
+        hear(self.early(), heard).does_as(end_all(self.early()))
     }
 }
 
@@ -120,136 +165,88 @@ fn held(phase: Phase) -> Place {
 
 fn step(place: Place, record: &[u8]) -> Said {
     let answer = box_with(place).apply(record);
-    let next = answer.state;
-    let actions = answer.actions;
-    let first = actions.items[0];
-    let second = actions.items[1];
+    let [first, second, ..] = answer.actions.items;
     Said {
         code: answer.code,
         first: first.number,
         second: second.number,
-        place: next.places[0],
+        place: answer.state.places[0],
     }
+}
+
+fn signal(place: Place, kind: u8) -> Said {
+    step(place, &[kind, RBC, 0, 0, NUMBER])
+}
+
+fn message(place: Place, number: u8, version: u8) -> Said {
+    step(place, &[KIND_MESSAGE, RBC, 0, 0, NUMBER, number, version])
 }
 
 pub(crate) fn hear(place: Place, heard: Heard) -> Said {
-    if heard.kind == KIND_MESSAGE {
-        let record = [
-            KIND_MESSAGE,
-            RBC,
-            0,
-            0,
-            NUMBER,
-            heard.message,
-            heard.version,
-        ];
-        return step(place, &record);
+    match heard {
+        Heard::Drop => signal(place, KIND_DROP),
+        Heard::Up => signal(place, KIND_UP),
+        Heard::Loss => signal(place, KIND_LOSS),
+        Heard::Timeout => signal(place, KIND_TIMEOUT),
+        Heard::Version(version) => message(place, VERSION, version),
+        Heard::Call => message(place, CALL, 0),
+        Heard::Ended => message(place, ENDED, 0),
     }
-    let record = [heard.kind, RBC, 0, 0, NUMBER];
-    step(place, &record)
 }
 
 pub(crate) fn order(place: Place) -> Said {
-    let record = [KIND_ORDER, RBC, 0, 0, NUMBER, 1, TRACKSIDE];
-    step(place, &record)
+    step(place, &[KIND_ORDER, RBC, 0, 0, NUMBER, 1, TRACKSIDE])
 }
 
 fn end_all(place: Place) -> Said {
-    let record = [KIND_END_ALL, 0];
-    step(place, &record)
+    step(place, &[KIND_END_ALL, 0])
 }
 
-// The phase of this number, 1 to 5, with so many tries.
-pub(crate) fn phase_of(number: u8, tries: u8) -> Phase {
-    match number {
-        1 => Phase::Connecting(tries),
-        2 => Phase::Contacting(tries),
-        3 => Phase::Open,
-        4 => Phase::Lost(tries),
-        _ => Phase::Ending(tries),
+impl Heard {
+    // The event with a version that is not supported; the same event where it has none.
+    fn unsupported(self) -> Heard {
+        match self {
+            Heard::Version(_) => Heard::Version(UNSUPPORTED),
+            other => other,
+        }
     }
-}
 
-pub(crate) fn place_in(phase: u8, tries: u8) -> Place {
-    held(phase_of(phase, tries))
-}
-
-// The event with a version that is not supported; the same event where it has none.
-fn unsupported(heard: Heard) -> Heard {
-    if heard.version == SUPPORTED {
-        with_version(UNSUPPORTED)
-    } else {
-        heard
-    }
-}
-
-pub(crate) fn answers(phase: u8, heard: Heard) -> Cell {
-    Cell {
-        early: hear(place_in(phase, FIRST_TRY), heard),
-        late: hear(place_in(phase, TRIES), heard),
-        other: hear(place_in(phase, FIRST_TRY), unsupported(heard)),
+    // Whether it does in every phase what an end all does.
+    pub(crate) fn closes(self) -> bool {
+        ROWS.iter().all(|row| row.closes(self))
     }
 }
 
 impl Said {
     pub(crate) fn is_refused(self) -> bool {
-        self.code == NOT_TAKEN
+        self.code == Refusal::NotTaken.number()
+    }
+
+    // The actions, and the place: whether it is free, its phase and its tries.
+    fn done(self) -> (u8, u8, bool, u8, u8) {
+        let phase = self.place.held_phase();
+        let free = self.place.is_free();
+        (self.first, self.second, free, phase.number(), phase.tries())
     }
 
     // Whether the two send the same actions and leave the same place.
     fn does_as(self, other: Said) -> bool {
-        let here = self.place;
-        let there = other.place;
-        let phase = here.held_phase();
-        let phase_there = there.held_phase();
-        and(
-            and(self.first == other.first, self.second == other.second),
-            and(
-                here.is_free() == there.is_free(),
-                and(
-                    phase.number() == phase_there.number(),
-                    phase.tries() == phase_there.tries(),
-                ),
-            ),
-        )
+        self.done() == other.done()
     }
 }
 
 impl Cell {
     pub(crate) fn is_refused(self) -> bool {
-        let early = self.early;
-        let late = self.late;
-        let other = self.other;
-        and(
-            early.is_refused(),
-            and(late.is_refused(), other.is_refused()),
-        )
+        self.early.is_refused() & (self.late.is_refused() & self.other.is_refused())
     }
 
+    // Whether the answer depends on the version.
     pub(crate) fn judges(self) -> bool {
-        let early = self.early;
-        let other = self.other;
-        negated(early.does_as(other))
+        !self.early.does_as(self.other)
     }
 
+    // Whether the answer depends on the tries.
     pub(crate) fn counts(self) -> bool {
-        let early = self.early;
-        let late = self.late;
-        negated(early.does_as(late))
+        !self.early.does_as(self.late)
     }
-}
-
-fn closes_in(phase: u8, heard: Heard) -> bool {
-    let place = place_in(phase, FIRST_TRY);
-    hear(place, heard).does_as(end_all(place))
-}
-
-pub(crate) fn closes(heard: Heard) -> bool {
-    and(
-        and(closes_in(1, heard), closes_in(2, heard)),
-        and(
-            closes_in(3, heard),
-            and(closes_in(4, heard), closes_in(5, heard)),
-        ),
-    )
 }

@@ -10,157 +10,105 @@
 mod asked;
 mod words;
 
-use crate::asked::{
-    CALL, Cell, ENDED, Heard, SUPPORTED, Said, answers, closes, hear, message, order, phase_of,
-    place_in, signal, with_version,
-};
-use crate::words::{print, print_actions, print_event, print_number, print_phase, print_said};
-use place::phase::FIRST_TRY;
+use crate::asked::{COLUMNS, Heard, ROWS, Row, Said, hear, order};
+use crate::words::{End, print_actions, print_said};
 use place::place::Place;
-use record::read::{KIND_DROP, KIND_LOSS, KIND_TIMEOUT, KIND_UP};
 use std::io;
-use wire::join::and;
 
-fn print_cell(out: &impl Print, cell: Cell, closes: bool) -> io::Result<()> {
-    let early = cell.early;
+fn print_cell(out: &impl Print, row: Row, heard: Heard) -> io::Result<()> {
+    let cell = row.answers(heard);
     if cell.is_refused() {
-        return print(out, b" no |");
+        return print!(out; " no |");
     }
-    if closes {
-        return print(out, b" close |");
+    if heard.closes() {
+        return print!(out; " close |");
     }
     if cell.judges() {
-        return print(out, b" judge |");
+        return print!(out; " judge |");
     }
-    print(out, b" ")?;
+    print!(out; " ")?;
     if cell.counts() {
-        print_number(out, early.first)?;
+        print!(out; "{}", cell.early.first)?;
     } else {
-        print_said(out, early)?;
+        print_said(out, cell.early)?;
     }
-    print(out, b" |")
-}
-
-fn head(out: &impl Print, heard: Heard) -> io::Result<()> {
-    print(out, b" ")?;
-    print_event(out, heard)?;
-    print(out, b" |")
+    print!(out; " |")
 }
 
 fn heads(out: &impl Print) -> io::Result<()> {
-    print(out, b"| |")?;
-    head(out, signal(KIND_DROP))?;
-    head(out, signal(KIND_UP))?;
-    head(out, signal(KIND_LOSS))?;
-    head(out, signal(KIND_TIMEOUT))?;
-    head(out, with_version(SUPPORTED))?;
-    head(out, message(ENDED))?;
-    print(out, b"\n|---|---|---|---|---|---|---|\n")
-}
-
-fn print_answers(out: &impl Print, phase: u8, heard: Heard) -> io::Result<()> {
-    print_cell(out, answers(phase, heard), closes(heard))
-}
-
-fn row(out: &impl Print, phase: u8) -> io::Result<()> {
-    print(out, b"| ")?;
-    print_phase(out, phase_of(phase, FIRST_TRY))?;
-    print(out, b" |")?;
-    print_answers(out, phase, signal(KIND_DROP))?;
-    print_answers(out, phase, signal(KIND_UP))?;
-    print_answers(out, phase, signal(KIND_LOSS))?;
-    print_answers(out, phase, signal(KIND_TIMEOUT))?;
-    print_answers(out, phase, with_version(SUPPORTED))?;
-    print_answers(out, phase, message(ENDED))?;
-    print(out, b"\n")
-}
-
-// Where an arrow begins or ends: a phase, or no place.
-fn print_end(out: &impl Print, place: Place) -> io::Result<()> {
-    if place.is_free() {
-        print(out, b"[*]")
-    } else {
-        print_phase(out, place.held_phase())
+    print!(out; "| |")?;
+    for heard in COLUMNS {
+        print!(out; " {heard} |")?;
     }
+    println!(out; "\n|---|---|---|---|---|---|---|")
+}
+
+fn print_row(out: &impl Print, row: Row) -> io::Result<()> {
+    print!(out; "| {} |", End(row.early()))?;
+    for heard in COLUMNS {
+        print_cell(out, row, heard)?;
+    }
+    println!(out; "")
 }
 
 // The front of an arrow, up to its event.
 fn begin_arrow(out: &impl Print, from: Place, said: Said) -> io::Result<()> {
-    print(out, b"    ")?;
-    print_end(out, from)?;
-    print(out, b" --> ")?;
-    print_end(out, said.place)?;
-    print(out, b": ")
+    print!(out; "    {} --> {}: ", End(from), End(said.place))
 }
 
 fn end_arrow(out: &impl Print, said: Said) -> io::Result<()> {
-    print_actions(out, said, b" / ", b" ")?;
-    print(out, b"\n")
+    print_actions(out, said, " / ", " ")?;
+    println!(out; "")
 }
 
 // An arrow of an event, with these words after it.
-fn arrow(out: &impl Print, phase: u8, heard: Heard, said: Said, words: &[u8]) -> io::Result<()> {
-    begin_arrow(out, place_in(phase, FIRST_TRY), said)?;
-    print_event(out, heard)?;
-    print(out, words)?;
+fn arrow(out: &impl Print, from: Place, heard: Heard, said: Said, words: &str) -> io::Result<()> {
+    begin_arrow(out, from, said)?;
+    print!(out; "{heard}{words}")?;
     end_arrow(out, said)
 }
 
 // The arrow of an event in a phase, or the two where the answer depends on the version or the tries; none where it is refused.
-fn arrows(out: &impl Print, phase: u8, heard: Heard) -> io::Result<()> {
-    let cell = answers(phase, heard);
-    let early = cell.early;
-    let late = cell.late;
-    let other = cell.other;
+fn arrows(out: &impl Print, row: Row, heard: Heard) -> io::Result<()> {
+    let cell = row.answers(heard);
+    let from = row.early();
     if cell.is_refused() {
         return Ok(());
     }
     if cell.judges() {
-        arrow(out, phase, heard, early, b", X supported")?;
-        return arrow(out, phase, heard, other, b", X not supported");
+        arrow(out, from, heard, cell.early, ", X supported")?;
+        return arrow(out, from, heard, cell.other, ", X not supported");
     }
     if cell.counts() {
-        arrow(out, phase, heard, early, b", tries under n")?;
-        return arrow(out, phase, heard, late, b", tries n");
+        arrow(out, from, heard, cell.early, ", tries under n")?;
+        return arrow(out, from, heard, cell.late, ", tries n");
     }
-    arrow(out, phase, heard, early, b"")
-}
-
-fn arrows_from(out: &impl Print, phase: u8) -> io::Result<()> {
-    arrows(out, phase, signal(KIND_DROP))?;
-    arrows(out, phase, signal(KIND_UP))?;
-    arrows(out, phase, signal(KIND_LOSS))?;
-    arrows(out, phase, signal(KIND_TIMEOUT))?;
-    arrows(out, phase, with_version(SUPPORTED))?;
-    arrows(out, phase, message(ENDED))
+    arrow(out, from, heard, cell.early, "")
 }
 
 // The arrows into a place: an order, and a call.
 fn entries(out: &impl Print) -> io::Result<()> {
     let ordered = order(Place::free());
     begin_arrow(out, Place::free(), ordered)?;
-    print(out, b"order")?;
+    print!(out; "order")?;
     end_arrow(out, ordered)?;
-    let called = hear(Place::free(), message(CALL));
+    let called = hear(Place::free(), Heard::Call);
     begin_arrow(out, Place::free(), called)?;
-    print(out, b"call ")?;
-    print_event(out, message(CALL))?;
+    print!(out; "call {}", Heard::Call)?;
     end_arrow(out, called)
 }
 
 fn main(rt: HostRuntime) -> io::Result<()> {
     heads(&rt)?;
-    row(&rt, 1)?;
-    row(&rt, 2)?;
-    row(&rt, 3)?;
-    row(&rt, 4)?;
-    row(&rt, 5)?;
-    print(&rt, b"```mermaid\nstateDiagram-v2\n")?;
+    for row in ROWS {
+        print_row(&rt, row)?;
+    }
+    println!(rt; "```mermaid\nstateDiagram-v2")?;
     entries(&rt)?;
-    arrows_from(&rt, 1)?;
-    arrows_from(&rt, 2)?;
-    arrows_from(&rt, 3)?;
-    arrows_from(&rt, 4)?;
-    arrows_from(&rt, 5)?;
-    print(&rt, b"```\n")
+    for row in ROWS {
+        for heard in COLUMNS {
+            arrows(&rt, row, heard)?;
+        }
+    }
+    println!(rt; "```")
 }

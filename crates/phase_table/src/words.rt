@@ -1,77 +1,91 @@
 // The words and numbers of phases, events and answers.
-use crate::asked::{Heard, Said};
+use crate::asked::{CALL, ENDED, Heard, Said, VERSION};
 use place::action::NO_ACTION;
 use place::phase::Phase;
 use place::place::Place;
-use record::read::{KIND_DROP, KIND_LOSS, KIND_TIMEOUT, KIND_UP};
-use std::io;
-use streams::print_decimal;
+use std::{fmt, io};
 
-pub(crate) fn print(out: &impl Print, word: &[u8]) -> io::Result<()> {
-    out.write_all(word)
-}
+// A phase by its name.
+#[derive(Clone, Copy)]
+pub(crate) struct Name(pub(crate) Phase);
 
-pub(crate) fn print_number(out: &impl Print, n: u8) -> io::Result<()> {
-    print_decimal(out, n as u64)
-}
-
-pub(crate) fn print_phase(out: &impl Print, phase: Phase) -> io::Result<()> {
-    match phase {
-        Phase::Connecting(_) => print(out, b"Connecting"),
-        Phase::Contacting(_) => print(out, b"Contacting"),
-        Phase::Open => print(out, b"Open"),
-        Phase::Lost(_) => print(out, b"Lost"),
-        Phase::Ending(_) => print(out, b"Ending"),
+impl fmt::Display for Name {
+    fn fmt<W: fmt::Write>(&self, f: &mut fmt::Formatter<W>) -> fmt::Result {
+        f.write_str(match self.0 {
+            Phase::Connecting(_) => "Connecting",
+            Phase::Contacting(_) => "Contacting",
+            Phase::Open => "Open",
+            Phase::Lost(_) => "Lost",
+            Phase::Ending(_) => "Ending",
+        })
     }
 }
 
-// The phase with its tries, if it has any, or "free".
-fn print_place(out: &impl Print, place: Place) -> io::Result<()> {
-    if place.is_free() {
-        return print(out, b"free");
+// Where an arrow begins or ends: a phase, or no place.
+#[derive(Clone, Copy)]
+pub(crate) struct End(pub(crate) Place);
+
+impl fmt::Display for End {
+    fn fmt<W: fmt::Write>(&self, f: &mut fmt::Formatter<W>) -> fmt::Result {
+        if self.0.is_free() {
+            write!(f, "[*]")
+        } else {
+            write!(f, "{}", Name(self.0.held_phase()))
+        }
     }
-    let phase = place.held_phase();
-    print_phase(out, phase)?;
-    if phase.tries() > 0 {
-        print(out, b" ")?;
-        print_number(out, phase.tries())?;
+}
+
+// The phase of a place with its tries, if it has any, or "free".
+#[derive(Clone, Copy)]
+struct Left(Place);
+
+impl fmt::Display for Left {
+    fn fmt<W: fmt::Write>(&self, f: &mut fmt::Formatter<W>) -> fmt::Result {
+        let phase = self.0.held_phase();
+        if self.0.is_free() {
+            write!(f, "free")
+        } else if phase.tries() > 0 {
+            write!(f, "{} {}", Name(phase), phase.tries())
+        } else {
+            write!(f, "{}", Name(phase))
+        }
     }
-    Ok(())
+}
+
+impl fmt::Display for Heard {
+    fn fmt<W: fmt::Write>(&self, f: &mut fmt::Formatter<W>) -> fmt::Result {
+        match self {
+            Heard::Drop => write!(f, "drop"),
+            Heard::Up => write!(f, "up"),
+            Heard::Loss => write!(f, "lost"),
+            Heard::Timeout => write!(f, "timeout"),
+            Heard::Version(_) => write!(f, "{VERSION}"),
+            Heard::Call => write!(f, "{CALL}"),
+            Heard::Ended => write!(f, "{ENDED}"),
+        }
+    }
 }
 
 // The actions, each after these words.
 pub(crate) fn print_actions(
     out: &impl Print,
     said: Said,
-    before: &[u8],
-    between: &[u8],
+    before: &str,
+    between: &str,
 ) -> io::Result<()> {
     if said.first != NO_ACTION {
-        print(out, before)?;
-        print_number(out, said.first)?;
+        print!(out; "{before}{}", said.first)?;
     }
     if said.second != NO_ACTION {
-        print(out, between)?;
-        print_number(out, said.second)?;
+        print!(out; "{between}{}", said.second)?;
     }
     Ok(())
 }
 
 pub(crate) fn print_said(out: &impl Print, said: Said) -> io::Result<()> {
-    print_actions(out, said, b"", b", ")?;
+    print_actions(out, said, "", ", ")?;
     if said.first != NO_ACTION {
-        print(out, b"; ")?;
+        print!(out; "; ")?;
     }
-    print_place(out, said.place)
-}
-
-pub(crate) fn print_event(out: &impl Print, heard: Heard) -> io::Result<()> {
-    let kind = heard.kind;
-    match kind {
-        KIND_DROP => print(out, b"drop"),
-        KIND_UP => print(out, b"up"),
-        KIND_LOSS => print(out, b"lost"),
-        KIND_TIMEOUT => print(out, b"timeout"),
-        _ => print_number(out, heard.message),
-    }
+    print!(out; "{}", Left(said.place))
 }

@@ -46,11 +46,8 @@ impl Phase {
         ensures { result ≡ tries self }
     {
         match self {
-            Phase::Connecting(t) => t,
-            Phase::Contacting(t) => t,
+            Phase::Connecting(t) | Phase::Contacting(t) | Phase::Lost(t) | Phase::Ending(t) => t,
             Phase::Open => 0,
-            Phase::Lost(t) => t,
-            Phase::Ending(t) => t,
         }
     }
 
@@ -71,52 +68,28 @@ impl Phase {
     pub(crate) fn fits_incoming(self) -> bool
         ensures { result ≡ fits_incoming self }
     {
-        match self {
-            Phase::Connecting(_) => false,
-            Phase::Contacting(_) => false,
-            Phase::Open => true,
-            Phase::Lost(_) => true,
-            Phase::Ending(_) => true,
-        }
+        matches!(self, Phase::Open | Phase::Lost(_) | Phase::Ending(_))
     }
 
     // Whether it is a session, open or lost.
     pub(crate) fn in_session(self) -> bool
         ensures { result ≡ in_session self }
     {
-        match self {
-            Phase::Connecting(_) => false,
-            Phase::Contacting(_) => false,
-            Phase::Open => true,
-            Phase::Lost(_) => true,
-            Phase::Ending(_) => false,
-        }
+        matches!(self, Phase::Open | Phase::Lost(_))
     }
 
     // Whether an end all closes it.
     pub(crate) fn not_ending(self) -> bool
         ensures { result ≡ not_ending self }
     {
-        match self {
-            Phase::Connecting(_) => true,
-            Phase::Contacting(_) => true,
-            Phase::Open => true,
-            Phase::Lost(_) => true,
-            Phase::Ending(_) => false,
-        }
+        !matches!(self, Phase::Ending(_))
     }
 
     // Whether it is Open, which has no tries.
     pub(crate) fn is_open(self) -> bool
         ensures { result ≡ is_open self }
     {
-        match self {
-            Phase::Connecting(_) => false,
-            Phase::Contacting(_) => false,
-            Phase::Open => true,
-            Phase::Lost(_) => false,
-            Phase::Ending(_) => false,
-        }
+        matches!(self, Phase::Open)
     }
 
     // Whether the tries used are in their range.

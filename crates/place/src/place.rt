@@ -95,14 +95,9 @@ impl Place {
     pub fn is_free(self) -> bool
         ensures { result ≡ is_free self }
     {
-        let holding = self.holding;
-        match holding {
+        match self.holding {
             Holding::Free => true,
-            Holding::Held {
-                direction: _,
-                phase: _,
-                partner: _,
-            } => false,
+            Holding::Held { .. } => false,
         }
     }
 
@@ -110,19 +105,14 @@ impl Place {
     pub fn partner(self) -> Partner
         ensures { result ≡ partner_of self }
     {
-        let holding = self.holding;
-        match holding {
+        match self.holding {
             Holding::Free => Partner {
                 kind: 0,
                 high: 0,
                 middle: 0,
                 low: 0,
             },
-            Holding::Held {
-                direction: _,
-                phase: _,
-                partner,
-            } => partner,
+            Holding::Held { partner, .. } => partner,
         }
     }
 
@@ -130,14 +120,9 @@ impl Place {
     pub fn held_phase(self) -> Phase
         ensures { result ≡ held_phase self }
     {
-        let holding = self.holding;
-        match holding {
+        match self.holding {
             Holding::Free => Phase::Open,
-            Holding::Held {
-                direction: _,
-                phase,
-                partner: _,
-            } => phase,
+            Holding::Held { phase, .. } => phase,
         }
     }
 
@@ -145,14 +130,9 @@ impl Place {
     pub fn holds(self, partner: Partner) -> bool
         ensures { result ≡ holds partner self }
     {
-        let holding = self.holding;
-        match holding {
+        match self.holding {
             Holding::Free => false,
-            Holding::Held {
-                direction: _,
-                phase: _,
-                partner: other,
-            } => partner.same(other),
+            Holding::Held { partner: other, .. } => partner.same(other),
         }
     }
 
@@ -160,8 +140,7 @@ impl Place {
     pub fn is_sound(self, limits: Limits) -> bool
         ensures { result ≡ place_ok limits self }
     {
-        let holding = self.holding;
-        match holding {
+        match self.holding {
             Holding::Free => true,
             Holding::Held {
                 direction,
@@ -185,13 +164,12 @@ impl Place {
     fn in_phase(self, next: Phase) -> Place
         ensures { result ≡ in_phase self.holding next }
     {
-        let holding = self.holding;
-        match holding {
+        match self.holding {
             Holding::Free => Place::free(),
             Holding::Held {
                 direction,
-                phase: _,
                 partner,
+                ..
             } => Place::held(direction, next, partner),
         }
     }
@@ -203,13 +181,9 @@ impl Place {
         match turn {
             Turn::Stays => self,
             Turn::Released => Place::free(),
-            Turn::Becomes(next) => self.in_phase(next),
-            Turn::Sends { number: _, phase } => self.in_phase(phase),
-            Turn::SendsBoth {
-                first: _,
-                second: _,
-                phase,
-            } => self.in_phase(phase),
+            Turn::Becomes(phase) | Turn::Sends { phase, .. } | Turn::SendsBoth { phase, .. } => {
+                self.in_phase(phase)
+            }
         }
     }
 }

@@ -51,20 +51,7 @@ impl Turn {
     pub fn is_taken(self) -> bool
         ensures { result ≡ takes self }
     {
-        match self {
-            Turn::Stays => false,
-            Turn::Released => true,
-            Turn::Becomes(_) => true,
-            Turn::Sends {
-                number: _,
-                phase: _,
-            } => true,
-            Turn::SendsBoth {
-                first: _,
-                second: _,
-                phase: _,
-            } => true,
-        }
+        !matches!(self, Turn::Stays)
     }
 }
 
@@ -74,15 +61,10 @@ impl Turn {
         ensures { result ≡ get_or (numbers self) 0 0 }
     {
         match self {
-            Turn::Stays => NO_ACTION,
+            Turn::Stays | Turn::Becomes(_) => NO_ACTION,
             Turn::Released => RELEASE,
-            Turn::Becomes(_) => NO_ACTION,
-            Turn::Sends { number, phase: _ } => number,
-            Turn::SendsBoth {
-                first,
-                second: _,
-                phase: _,
-            } => first,
+            Turn::Sends { number, .. } => number,
+            Turn::SendsBoth { first, .. } => first,
         }
     }
 
@@ -91,18 +73,8 @@ impl Turn {
         ensures { result ≡ get_or (numbers self) 1 0 }
     {
         match self {
-            Turn::Stays => NO_ACTION,
-            Turn::Released => NO_ACTION,
-            Turn::Becomes(_) => NO_ACTION,
-            Turn::Sends {
-                number: _,
-                phase: _,
-            } => NO_ACTION,
-            Turn::SendsBoth {
-                first: _,
-                second,
-                phase: _,
-            } => second,
+            Turn::SendsBoth { second, .. } => second,
+            _ => NO_ACTION,
         }
     }
 }
@@ -125,12 +97,8 @@ fn version_of(event: PartnerEvent) -> u8
     ensures { result ≡ version_of event }
 {
     match event {
-        PartnerEvent::Drop => 0,
-        PartnerEvent::Up => 0,
-        PartnerEvent::Loss => 0,
-        PartnerEvent::Timeout => 0,
         PartnerEvent::Version(v) => v,
-        PartnerEvent::Ended => 0,
+        _ => 0,
     }
 }
 
@@ -159,13 +127,11 @@ impl Phase {
         ensures { result ≡ closing self }
     {
         match self {
-            Phase::Connecting(_) => Turn::Released,
-            Phase::Contacting(_) => Turn::Released,
+            Phase::Connecting(_) | Phase::Contacting(_) | Phase::Lost(_) => Turn::Released,
             Phase::Open => Turn::Sends {
                 number: TERMINATE,
                 phase: Phase::Ending(FIRST_TRY),
             },
-            Phase::Lost(_) => Turn::Released,
             Phase::Ending(_) => Turn::Stays,
         }
     }
@@ -234,14 +200,9 @@ impl Place {
     pub fn close(self, which: Closing) -> Turned
         ensures { result ≡ closed_to which self }
     {
-        let holding = self.holding;
-        match holding {
+        match self.holding {
             Holding::Free => self.make(Turn::Stays),
-            Holding::Held {
-                direction: _,
-                phase,
-                partner,
-            } => {
+            Holding::Held { phase, partner, .. } => {
                 if which.closes(phase, partner) {
                     self.make(phase.closing())
                 } else {

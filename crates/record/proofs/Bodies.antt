@@ -20,7 +20,7 @@ use Rattle.record.specs.declared.event.Cause.TheVariants.{StartOfMission, Tracks
 use Rattle.record.specs.declared.event.PartnerEvent.TheVariants.{Drop, Up, Loss, Timeout, Version, Ended}
 use Rattle.record.specs.declared.event.Event.{Event}
 use Rattle.record.specs.declared.event.Event.TheVariants.{Level, Mission, Mode, Hole, Order, EndAll, Call, Named}
-use Rattle.record.specs.declared.event.Reading.TheVariants.{Meant, Refused}
+use Rattle.record.specs.Readings.{Meant, Refused}
 use Rattle.record.proofs.ByKind.{length_none, length_some}
 
 -- "kind unknown": the kinds are 1 to 11

@@ -18,8 +18,8 @@ use Rattle.wire.proofs.Tests.{All, get_or-map}
 use Rattle.wire.specs.Bytes.{byte}
 use Rattle.wire.specs.Refusals.{wrong_length, unknown_kind}
 use Rattle.record.specs.declared.event.Cause.TheVariants.{StartOfMission}
-use Rattle.record.specs.declared.event.Reading.{Reading}
-use Rattle.record.specs.declared.event.Reading.TheVariants.{Refused}
+use Rattle.record.specs.Readings.{Reading}
+use Rattle.record.specs.Readings.{Refused}
 
 -- a byte that is no cause of 1 to 4 stands for the first
 pub cause-first : (b : ℕ)

@@ -5,3 +5,4 @@ pub mod OneAnswer
 pub mod Named
 pub mod Bodies
 pub mod Takes
+pub mod Told

@@ -20,13 +20,13 @@ use Rattle.wire.specs.Refusals.{wrong_length, unknown_kind, out_of_range}
 use Rattle.record.specs.declared.event.PartnerEvent.{PartnerEvent}
 use Rattle.record.specs.declared.event.PartnerEvent.TheVariants.{Drop, Up, Loss, Timeout, Version, Ended}
 use Rattle.record.specs.declared.event.Event.TheVariants.{Call, Named}
-use Rattle.record.specs.declared.event.Reading.{Reading}
-use Rattle.record.specs.declared.event.Reading.TheVariants.{Meant, Refused}
+use Rattle.record.specs.Readings.{Reading}
+use Rattle.record.specs.Readings.{Meant, Refused}
 use Rattle.record.specs.declared.partner.Partner.{Partner}
 use Rattle.wire.proofs.Tests.{and_left, and_right, and_both, true-false, cond-case, cond-holds, get_or-all}
 
-abbrev Ok : Reading → Type 0
-Ok r = reading_ok r ≡ true
+abbrev Fine : Reading → Type 0
+Fine r = reading_ok r ≡ true
 
 -- where the ranges of a row hold, its event is in its ranges
 abbrev Ranged : KindRow → Type 0
@@ -97,9 +97,9 @@ pub reading-ok : (s : List ℕ) → reading_ok (reading s) ≡ true
 unfolding reading
 reading-ok [] = refl
 reading-ok (kind ∷ body) =
-    cond-holds Ok (known kind) _ (Refused unknown_kind)
-    (cond-holds Ok (eqb (length (kind ∷ body)) (length_of kind)) _ (Refused wrong_length)
-    (cond-case Ok ((row_of kind).ranges (kind ∷ body)) (Meant ((row_of kind).means (kind ∷ body))) (Refused out_of_range)
+    cond-holds Fine (known kind) _ (Refused unknown_kind)
+    (cond-holds Fine (eqb (length (kind ∷ body)) (length_of kind)) _ (Refused wrong_length)
+    (cond-case Fine ((row_of kind).ranges (kind ∷ body)) (Meant ((row_of kind).means (kind ∷ body))) (Refused out_of_range)
     (bodies-ranged kind (kind ∷ body))
     (λ no-range. refl))
     refl)

@@ -1,6 +1,6 @@
 -- Cross-checks only: rules told a second time.
 -- One record off the front of a log.
--- Proves: part-is, take-end, by_kind, take-unknown, take_short, part-reads, take_whole, as_taken, front-taken, taken-short, taken-long,
+-- Proves: part-is, take-end, by_kind, take-unknown, take_short, part-reads, take_whole, taken-short, taken-long,
 -- taken-ok, taken-twelve, taken-nothing, taken-unknown, taken-cut, taken-whole.
 use mathlib.Core.Path.{◌≡◌, refl, sym, ap, ap₂, subst, ◌∙◌}
 use mathlib.Core.Bool.{true, false, cond}
@@ -18,13 +18,10 @@ use Rattle.wire.specs.Refusals.{log_too_long}
 use Rattle.record.specs.Records.{known, length_of, reading}
 use Rattle.record.specs.Records.{kinds, row_of}
 use Rattle.record.specs.Rows.{fields}
-use Rattle.record.specs.Takes.{nothing_left, record_short, kind_unknown, longest_log, take_one, taken, front_of}
+use Rattle.record.specs.Takes.{nothing_left, record_short, kind_unknown, longest_log, take_one, taken}
 use Rattle.record.specs.TakeWords.{TakenOk}
-use Rattle.record.specs.declared.event.Reading.{Reading}
-use Rattle.record.specs.declared.take.Taken.{Taken}
-use Rattle.record.specs.declared.take.Taken.TheVariants.{Whole, Stopped, Refused}
-use Rattle.record.specs.declared.take.Front.{Front}
-use Rattle.record.specs.declared.take.Front.TheVariants.{Next, Stop}
+use Rattle.record.specs.Readings.{Reading}
+use Rattle.record.specs.Takes.{Whole, Stopped, Overlong}
 use Rattle.record.proofs.ByKind.{length_none, read-fields}
 
 -- the part of the log that is lent
@@ -85,26 +82,12 @@ module _ (log : List ℕ) (at : ℕ) where
             ap₂ Whole of-kind (means ∙ ap (λ k. reading (take k (drop at log))) of-kind)
             ∙ sym (by_kind ∙ simp (lt-ltb 0 long has, le-leb long (length log - at) (omega arith)))
 
--- what stands at a place is neither more nor less than what taking answers there
-abbrev pub as_taken : Front → Taken
-as_taken (Next k r) = Whole k r
-as_taken (Stop stop) = Stopped stop
-
-pub front-taken : (log : List ℕ) → as_taken (front_of (take_one log)) ≡ take_one log
-unfolding take_one
-front-taken [] = refl
-front-taken (kind ∷ rest) =
-    cond-case (λ t. as_taken (front_of t) ≡ t) (known kind) _ _
-    (λ is_Known.
-    cond-case (λ t. as_taken (front_of t) ≡ t) (leb (length_of kind) (length (kind ∷ rest))) _ _ (λ fits. refl) (λ short. refl))
-    (λ unknown. refl)
-
 -- what is handed over is not too long
 pub taken-short : (log : List ℕ) → length log ≤ longest_log → taken log ≡ take_one log
 unfolding taken
 taken-short log short = simp (le-leb (length log) longest_log short)
 
-pub taken-long : (log : List ℕ) → longest_log < length log → taken log ≡ Refused log_too_long
+pub taken-long : (log : List ℕ) → longest_log < length log → taken log ≡ Overlong log_too_long
 unfolding taken
 taken-long log long = simp (lt-leb (length log) longest_log long)
 
@@ -124,13 +107,13 @@ one_ok (kind ∷ rest) =
 pub taken-ok : (log : List ℕ) → TakenOk log (taken log)
 unfolding taken
 taken-ok log =
-    cond-case (TakenOk log) (leb (length log) longest_log) (take_one log) (Refused log_too_long)
+    cond-case (TakenOk log) (leb (length log) longest_log) (take_one log) (Overlong log_too_long)
     (λ fits. one_ok log)
     (λ long. (refl, leb-false (length log) longest_log long))
 
 -- Q-8: "12 for taking, by the length of what is handed over"
 -- promise
-pub taken-twelve : (log : List ℕ) → 1_048_576 < length log → taken log ≡ Refused 12
+pub taken-twelve : (log : List ℕ) → 1_048_576 < length log → taken log ≡ Overlong 12
 taken-twelve = taken-long
 
 -- "nothing left, stop 0"

@@ -5,3 +5,6 @@ pub mod Ranges
 pub mod Takes
 pub mod Rows
 pub mod TakeWords
+pub mod Readings
+pub mod Stops
+pub mod Ends

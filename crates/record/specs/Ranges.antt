@@ -9,8 +9,8 @@ use Rattle.wire.specs.Refusals.{accepted, wrong_length, out_of_range}
 use Rattle.record.specs.declared.event.PartnerEvent.{PartnerEvent}
 use Rattle.record.specs.declared.event.Event.{Event}
 use Rattle.record.specs.declared.event.Event.TheVariants.{Level, Mission, Mode, Hole, Order, EndAll, Call, Named}
-use Rattle.record.specs.declared.event.Reading.{Reading}
-use Rattle.record.specs.declared.event.Reading.TheVariants.{Meant, Refused}
+use Rattle.record.specs.Readings.{Reading}
+use Rattle.record.specs.Readings.{Meant, Refused}
 
 -- 01's number for a reading: 0 for an event that is meant, else the refusal
 abbrev pub reading_number : Reading → ℕ

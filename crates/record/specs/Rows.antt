@@ -3,8 +3,8 @@
 use Rattle.std.specs.Prelude.{cond, List, ℕ}
 use Rattle.wire.specs.Refusals.{out_of_range}
 use Rattle.record.specs.Records.{KindRow}
-use Rattle.record.specs.declared.event.Reading.{Reading}
-use Rattle.record.specs.declared.event.Reading.TheVariants.{Meant, Refused}
+use Rattle.record.specs.Readings.{Reading}
+use Rattle.record.specs.Readings.{Meant, Refused}
 
 -- the fields of a record: its event where each is in its range, else refusal 3
 abbrev pub fields : KindRow → List ℕ → Reading

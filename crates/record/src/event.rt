@@ -54,10 +54,3 @@ pub enum Event {
         event: PartnerEvent,
     },
 }
-
-// What reading a record answers: its event, or the number of the refusal.
-#[derive(Clone, Copy)]
-pub enum Reading {
-    Meant(Event),
-    Refused(u8),
-}

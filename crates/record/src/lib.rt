@@ -3,4 +3,5 @@
 pub mod event;
 pub mod partner;
 pub mod read;
+pub mod stop;
 pub mod take;

@@ -18,7 +18,7 @@ const SIX_BITS: u8 = 63;
 const EIGHT_BITS: u8 = 255;
 
 // A partner: its type (here `kind`, since `type` is a word of the language) and the three bytes of its number, as on the wire.
-#[derive(Clone, Copy)]
+#[derive(Clone, Copy, Debug, PartialEq, Eq)]
 pub struct Partner {
     pub kind: u8,
     pub high: u8,
@@ -31,13 +31,7 @@ impl Partner {
     pub fn same(self, other: Partner) -> bool
         ensures { result ≡ same_partner self other }
     {
-        and(
-            self.kind == other.kind,
-            and(
-                self.high == other.high,
-                and(self.middle == other.middle, self.low == other.low),
-            ),
-        )
+        self == other
     }
 
     // Whether it is an RBC.

@@ -3,14 +3,14 @@ ghost use Rattle.std.specs.Prelude.{◌≡◌, ◌≤◌, cond, ◌&&◌, ltb, l
 ghost use Rattle.wire.specs.Bytes.{bit, flag};
 ghost use Rattle.record.specs.Partners.{partner_ok, named_ok};
 ghost use Rattle.record.specs.Records.{length_of, partner_in, causes, cause_of, message_ok, message_means, row_of, partner_row, reading};
+ghost use Rattle.record.specs.Readings.{Meant, Refused, told_reading};
 ghost use Rattle.record.specs.Rows.{fields};
 ghost use Rattle.wire.specs.Refusals.{out_of_range};
 
-use crate::event::{Cause, Event, PartnerEvent, Reading};
+use crate::event::{Cause, Event, PartnerEvent};
 use crate::partner::Partner;
-use wire::byte::long;
 use wire::join::and;
-use wire::refusal::{OUT_OF_RANGE, UNKNOWN_KIND, WRONG_LENGTH};
+use wire::refusal::Refusal;
 
 // The kinds of record, and the number below them.
 pub(crate) const NO_KIND: u8 = 0;
@@ -55,30 +55,24 @@ const MESSAGE_CALL: u8 = 38;
 
 const MESSAGE_ENDED: u8 = 39;
 
-fn wide(n: u8) -> usize
-    ensures { result ≡ n }
-{
-    n as usize
-}
-
 // The length of a record of this kind; 0 where no kind has that number.
 pub fn length_of(kind: u8) -> usize
     ensures { result ≡ length_of kind }
 {
     if kind <= KIND_MESSAGE {
-        wide(LENGTHS[wide(kind)])
+        usize::from(LENGTHS[usize::from(kind)])
     } else {
         0
     }
 }
 
-fn within(ok: bool, event: Event) -> Reading
-    ensures { result ≡ cond ok (Reading.Meant event) (Reading.Refused out_of_range) }
+fn within(ok: bool, event: Event) -> Result<Event, Refusal>
+    ensures { told_reading result ≡ cond ok (Meant event) (Refused out_of_range) }
 {
     if ok {
-        Reading::Meant(event)
+        Ok(event)
     } else {
-        Reading::Refused(OUT_OF_RANGE)
+        Err(Refusal::OutOfRange)
     }
 }
 
@@ -94,37 +88,37 @@ fn partner_in(s: &[u8]) -> Partner
     }
 }
 
-fn level_body(s: &[u8]) -> Reading
+fn level_body(s: &[u8]) -> Result<Event, Refusal>
     requires { 3 ≤ length s.now }
-    ensures { result ≡ fields (row_of 1) s.now }
+    ensures { told_reading result ≡ fields (row_of 1) s.now }
 {
     let level = s[1];
     let manual = s[2];
     within(
         and(level <= HIGHEST_LEVEL, manual <= 1),
         Event::Level {
-            level: long(level),
+            level: u64::from(level),
             manual: manual == 1,
         },
     )
 }
 
-fn mission_body(s: &[u8]) -> Reading
+fn mission_body(s: &[u8]) -> Result<Event, Refusal>
     requires { 2 ≤ length s.now }
-    ensures { result ≡ fields (row_of 2) s.now }
+    ensures { told_reading result ≡ fields (row_of 2) s.now }
 {
     let mission = s[1];
     within(
         mission <= HIGHEST_MISSION,
         Event::Mission {
-            mission: long(mission),
+            mission: u64::from(mission),
         },
     )
 }
 
-fn hole_body(s: &[u8]) -> Reading
+fn hole_body(s: &[u8]) -> Result<Event, Refusal>
     requires { 2 ≤ length s.now }
-    ensures { result ≡ fields (row_of 4) s.now }
+    ensures { told_reading result ≡ fields (row_of 4) s.now }
 {
     let entered = s[1];
     within(
@@ -147,11 +141,11 @@ fn cause_of(b: u8) -> Cause
     }
 }
 
-fn order_of(partner: Partner, accepting: u8, cause: u8) -> Reading
-    ensures { result
+fn order_of(partner: Partner, accepting: u8, cause: u8) -> Result<Event, Refusal>
+    ensures { told_reading result
         ≡ cond (partner_ok partner && (bit accepting && ltb cause (length causes)))
-        (Reading.Meant (Event.Order partner (flag accepting) (cause_of cause)))
-        (Reading.Refused out_of_range) }
+        (Meant (Event.Order partner (flag accepting) (cause_of cause)))
+        (Refused out_of_range) }
 {
     within(
         and(partner.in_range(), and(accepting <= 1, cause < CAUSES)),
@@ -163,32 +157,32 @@ fn order_of(partner: Partner, accepting: u8, cause: u8) -> Reading
     )
 }
 
-fn order_body(s: &[u8]) -> Reading
+fn order_body(s: &[u8]) -> Result<Event, Refusal>
     requires { 7 ≤ length s.now }
-    ensures { result ≡ fields (row_of 5) s.now }
+    ensures { told_reading result ≡ fields (row_of 5) s.now }
 {
     order_of(partner_in(s), s[5], s[6])
 }
 
-fn partner_body(s: &[u8], event: PartnerEvent) -> Reading
+fn partner_body(s: &[u8], event: PartnerEvent) -> Result<Event, Refusal>
     requires { 5 ≤ length s.now }
-    ensures { result ≡ fields (partner_row event) s.now }
+    ensures { told_reading result ≡ fields (partner_row event) s.now }
 {
     let partner = partner_in(s);
     within(partner.can_be_named(), Event::Named { partner, event })
 }
 
-fn end_all_body(s: &[u8]) -> Reading
+fn end_all_body(s: &[u8]) -> Result<Event, Refusal>
     requires { 2 ≤ length s.now }
-    ensures { result ≡ fields (row_of 7) s.now }
+    ensures { told_reading result ≡ fields (row_of 7) s.now }
 {
     within(s[1] <= 1, Event::EndAll)
 }
 
-fn message_of(partner: Partner, number: u8, version: u8) -> Reading
-    ensures { result
-        ≡ cond (named_ok partner && message_ok number version) (Reading.Meant (message_means number version partner))
-        (Reading.Refused out_of_range) }
+fn message_of(partner: Partner, number: u8, version: u8) -> Result<Event, Refusal>
+    ensures { told_reading result
+        ≡ cond (named_ok partner && message_ok number version) (Meant (message_means number version partner))
+        (Refused out_of_range) }
 {
     let nameable = partner.can_be_named();
     if number == MESSAGE_VERSION {
@@ -212,22 +206,22 @@ fn message_of(partner: Partner, number: u8, version: u8) -> Reading
     )
 }
 
-fn message_body(s: &[u8]) -> Reading
+fn message_body(s: &[u8]) -> Result<Event, Refusal>
     requires { 7 ≤ length s.now }
-    ensures { result ≡ fields (row_of 11) s.now }
+    ensures { told_reading result ≡ fields (row_of 11) s.now }
 {
     message_of(partner_in(s), s[5], s[6])
 }
 
 // What the fields of a record of this kind mean; refusal 3 where one is outside its range.
-pub(crate) fn fields_of(kind: u8, s: &[u8]) -> Reading
+pub(crate) fn fields_of(kind: u8, s: &[u8]) -> Result<Event, Refusal>
     requires { length_of kind ≤ length s.now }
-    ensures { result ≡ fields (row_of kind) s.now }
+    ensures { told_reading result ≡ fields (row_of kind) s.now }
 {
     match kind {
         KIND_LEVEL => level_body(s),
         KIND_MISSION => mission_body(s),
-        KIND_MODE => Reading::Meant(Event::Mode),
+        KIND_MODE => Ok(Event::Mode),
         KIND_HOLE => hole_body(s),
         KIND_ORDER => order_body(s),
         KIND_DROP => partner_body(s, PartnerEvent::Drop),
@@ -236,27 +230,27 @@ pub(crate) fn fields_of(kind: u8, s: &[u8]) -> Reading
         KIND_LOSS => partner_body(s, PartnerEvent::Loss),
         KIND_TIMEOUT => partner_body(s, PartnerEvent::Timeout),
         KIND_MESSAGE => message_body(s),
-        _ => Reading::Refused(OUT_OF_RANGE),
+        _ => Err(Refusal::OutOfRange),
     }
 }
 
 // Reads a record: the event that it means, or refusal 1, 2 or 3, in the order 1 (empty), 2, 1 (length), 3.
-pub fn read(s: &[u8]) -> Reading
-    ensures { result ≡ reading s.now }
+pub fn read(s: &[u8]) -> Result<Event, Refusal>
+    ensures { told_reading result ≡ reading s.now }
 {
     if s.len() == 0 {
-        return Reading::Refused(WRONG_LENGTH);
+        return Err(Refusal::WrongLength);
     }
     let kind = s[0];
     if kind == NO_KIND {
-        return Reading::Refused(UNKNOWN_KIND);
+        return Err(Refusal::UnknownKind);
     }
     if kind > KIND_MESSAGE {
-        return Reading::Refused(UNKNOWN_KIND);
+        return Err(Refusal::UnknownKind);
     }
     let length = length_of(kind);
     if s.len() != length {
-        return Reading::Refused(WRONG_LENGTH);
+        return Err(Refusal::WrongLength);
     }
     fields_of(kind, s)
 }

@@ -4,43 +4,12 @@ use place::limits::{FLEET_TRIES, Limits};
 use std::env::{Env, FillError};
 use streams::buffer;
 use tools::started::{FLEET_HIGHEST, FLEET_LOWEST};
-use wire::byte::byte_at;
-use wire::join::{and, negated};
-
-// What the next word is: an option or a file, or a value of the option before it.
-const ANY: u8 = 0;
-
-const LOWEST: u8 = 1;
-
-const HIGHEST: u8 = 2;
-
-const TRIES: u8 = 3;
-
-const OUTPUT: u8 = 4;
-
-const MARKS: u8 = 5;
-
-// What is wrong with the words.
-pub(crate) const NOTHING: u8 = 0;
-
-pub(crate) const UNKNOWN: u8 = 1;
-
-pub(crate) const ONE_TOO_MANY: u8 = 2;
-
-pub(crate) const NO_NUMBER: u8 = 3;
-
-pub(crate) const NO_VALUE: u8 = 4;
-
-pub(crate) const WORD_TOO_LONG: u8 = 5;
-
-pub(crate) const NO_FILE: u8 = 6;
-
-pub(crate) const NO_OUTPUT: u8 = 7;
-
-pub(crate) const NO_RECORD: u8 = 8;
 
 // A number grows no longer from here on: no log has so many records.
 const LARGE: usize = 1_000_000_000;
+
+// The option that asks for help.
+const HELP: &[u8] = b"--help";
 
 #[derive(Clone, Copy)]
 pub(crate) enum Command {
@@ -52,345 +21,278 @@ pub(crate) enum Command {
     Sets,
 }
 
-// What is asked for: by which command; the numbers of the words that name the file, the output and the marks, 0 where none does; the number
-// of a record, once it is given; whether marks are extended; what the box is started with; whether help is asked for; what is wrong, and
-// the word that was reached; and what the next word is.
-#[derive(Clone, Copy)]
-pub(crate) struct Asked {
-    pub(crate) command: Command,
-    pub(crate) file: usize,
-    pub(crate) output: usize,
-    pub(crate) marks: usize,
-    pub(crate) record: usize,
-    counted: bool,
-    pub(crate) extends: bool,
-    pub(crate) limits: Limits,
-    pub(crate) help: bool,
-    pub(crate) wrong: u8,
-    pub(crate) at: usize,
-    next: u8,
+// What the next word is: an option or a file, or a value of the option before it.
+#[derive(Clone, Copy, PartialEq)]
+enum Next {
+    Any,
+    Lowest,
+    Highest,
+    Tries,
+    Output,
+    Marks,
 }
 
-// A number of decimal digits, or that a word is none.
+// What is wrong with the words.
 #[derive(Clone, Copy)]
-enum Number {
-    Is(usize),
-    No,
+pub(crate) enum Wrong {
+    Unknown,
+    OneTooMany,
+    NoNumber,
+    NoValue,
+    WordTooLong,
+    NoFile,
+    NoOutput,
+    NoRecord,
+}
+
+// Wrong use: what is wrong, and the word that was reached.
+#[derive(Clone, Copy)]
+pub(crate) struct Misuse {
+    pub(crate) wrong: Wrong,
+    pub(crate) at: usize,
+}
+
+// What is to be done with a file. An output and marks are the numbers of the words that name them.
+#[derive(Clone, Copy)]
+pub(crate) enum Work {
+    Judge,
+    Produce { output: usize },
+    Marks { output: usize, extends: bool },
+    State { record: usize, marks: Option<usize> },
+    Shunter,
+    Sets,
+}
+
+// What is asked for: what the box is started with, the number of the word that names the file, and what is to be done with it.
+#[derive(Clone, Copy)]
+pub(crate) struct Asked {
+    pub(crate) limits: Limits,
+    pub(crate) file: usize,
+    pub(crate) work: Work,
+}
+
+// What the words behind a command ask for: help, or its work.
+#[derive(Clone, Copy)]
+pub(crate) enum Request {
+    Help,
+    Run(Asked),
+}
+
+// The words so far, of this command: the numbers of those that name the file, the output and the marks; the number of a record; whether
+// marks are extended; what the box is started with; and what the next word is.
+#[derive(Clone, Copy)]
+struct Words {
+    command: Command,
+    file: Option<usize>,
+    output: Option<usize>,
+    marks: Option<usize>,
+    record: Option<usize>,
+    extends: bool,
+    limits: Limits,
+    next: Next,
 }
 
 impl Command {
+    // The command of this name.
+    pub(crate) fn named(name: &[u8]) -> Option<Command> {
+        match name {
+            b"judge" => Some(Command::Judge),
+            b"produce" => Some(Command::Produce),
+            b"marks" => Some(Command::Marks),
+            b"state" => Some(Command::State),
+            b"shunter" => Some(Command::Shunter),
+            b"sets" => Some(Command::Sets),
+            _ => None,
+        }
+    }
+
     // Whether it makes something, which -o names.
     fn makes(self) -> bool {
-        match self {
-            Command::Judge => false,
-            Command::Produce => true,
-            Command::Marks => true,
-            Command::State => false,
-            Command::Shunter => false,
-            Command::Sets => false,
-        }
+        matches!(self, Command::Produce | Command::Marks)
     }
 
     // Whether it can extend what it made.
     fn can_extend(self) -> bool {
-        match self {
-            Command::Judge => false,
-            Command::Produce => false,
-            Command::Marks => true,
-            Command::State => false,
-            Command::Shunter => false,
-            Command::Sets => false,
-        }
+        matches!(self, Command::Marks)
     }
 
     // Whether it looks up a record.
     fn looks_up(self) -> bool {
-        match self {
-            Command::Judge => false,
-            Command::Produce => false,
-            Command::Marks => false,
-            Command::State => true,
-            Command::Shunter => false,
-            Command::Sets => false,
-        }
+        matches!(self, Command::State)
     }
 }
 
-// Whether two words are the same.
-pub(crate) fn same(a: &[u8], b: &[u8]) -> bool {
-    if a.len() != b.len() {
-        return false;
-    }
-    let mut i = 0;
-    loop {
-        if i >= a.len() {
-            break true;
-        }
-        if byte_at(a, i) != byte_at(b, i) {
-            break false;
-        }
-        i += 1;
-    }
-}
-
-fn digit_of(b: u8) -> Number {
-    if b < b'0' {
-        return Number::No;
-    }
-    if b > b'9' {
-        return Number::No;
-    }
-    Number::Is((b - b'0') as usize)
+fn digit_of(b: u8) -> Option<u8> {
+    b.checked_sub(b'0').filter(|digit| *digit < 10)
 }
 
 // A number with one more digit.
-fn longer(n: usize, digit: usize) -> usize {
+fn longer(n: usize, digit: u8) -> usize {
     if n >= LARGE {
         return n;
     }
-    if digit > 9 {
-        return n;
+    n * 10 + usize::from(digit)
+}
+
+// A number of decimal digits.
+fn number_of(text: &[u8]) -> Result<usize, Wrong> {
+    if text.is_empty() {
+        return Err(Wrong::NoNumber);
     }
-    n * 10 + digit
+    let mut n = 0;
+    for byte in text {
+        let digit = digit_of(*byte).ok_or(Wrong::NoNumber)?;
+        n = longer(n, digit);
+    }
+    Ok(n)
 }
 
 // A number for the start; over 255 it is 255, which no box starts with.
-fn narrow(n: usize) -> u8 {
-    if n > 255 { 255 } else { n as u8 }
-}
-
-fn number_of(text: &[u8]) -> Number {
-    if text.len() == 0 {
-        return Number::No;
-    }
-    let mut n = 0;
-    let mut i = 0;
-    loop {
-        if i >= text.len() {
-            break Number::Is(n);
-        }
-        match digit_of(byte_at(text, i)) {
-            Number::Is(digit) => {
-                n = longer(n, digit);
-                i += 1;
-            }
-            Number::No => {
-                break Number::No;
-            }
-        }
-    }
+fn start_number(text: &[u8]) -> Result<u8, Wrong> {
+    let n = number_of(text)?;
+    Ok(u8::try_from(n).unwrap_or(u8::MAX))
 }
 
 // Whether a word is an option: a dash and more. A dash alone is standard input or output.
 fn is_option(text: &[u8]) -> bool {
-    if text.len() < 2 {
-        return false;
-    }
-    byte_at(text, 0) == b'-'
+    matches!(text, [b'-', _, ..])
 }
 
-impl Asked {
-    // Nothing yet, of this command.
-    fn nothing(command: Command) -> Asked {
-        Asked {
+// What is given now, where nothing was.
+fn once(given: Option<usize>, now: usize) -> Result<Option<usize>, Wrong> {
+    match given {
+        None => Ok(Some(now)),
+        Some(_) => Err(Wrong::OneTooMany),
+    }
+}
+
+impl Words {
+    // None yet, of this command.
+    fn none(command: Command) -> Words {
+        Words {
             command,
-            file: 0,
-            output: 0,
-            marks: 0,
-            record: 0,
-            counted: false,
+            file: None,
+            output: None,
+            marks: None,
+            record: None,
             extends: false,
             limits: Limits {
                 lowest: FLEET_LOWEST,
                 highest: FLEET_HIGHEST,
                 tries: FLEET_TRIES,
             },
-            help: false,
-            wrong: NOTHING,
-            at: 0,
-            next: ANY,
+            next: Next::Any,
         }
     }
 
-    fn but(mut self, wrong: u8) -> Asked {
-        self.wrong = wrong;
-        self
-    }
-
-    fn awaiting(mut self, next: u8) -> Asked {
-        self.next = next;
-        self
-    }
-
-    fn with_help(mut self) -> Asked {
-        self.help = true;
-        self
-    }
-
-    fn with_extending(mut self) -> Asked {
-        self.extends = true;
-        self
-    }
-
-    fn with_output(mut self) -> Asked {
-        if self.output > 0 {
-            return self.but(ONE_TOO_MANY);
-        }
-        self.output = self.at;
-        self.next = ANY;
-        self
-    }
-
-    fn with_marks(mut self) -> Asked {
-        if self.marks > 0 {
-            return self.but(ONE_TOO_MANY);
-        }
-        self.marks = self.at;
-        self.next = ANY;
-        self
-    }
-
-    fn with_number(mut self, n: u8) -> Asked {
-        if self.next == LOWEST {
-            self.limits.lowest = n;
-            self.next = HIGHEST;
-            return self;
-        }
-        if self.next == HIGHEST {
-            self.limits.highest = n;
-            self.next = ANY;
-            return self;
-        }
-        self.limits.tries = n;
-        self.next = ANY;
-        self
-    }
-
-    fn with_record(mut self, text: &[u8]) -> Asked {
-        if self.counted {
-            return self.but(ONE_TOO_MANY);
-        }
-        match number_of(text) {
-            Number::Is(n) => {
-                self.record = n;
-                self.counted = true;
-                self
-            }
-            Number::No => self.but(NO_NUMBER),
-        }
+    fn awaiting(self, next: Next) -> Result<Words, Wrong> {
+        Ok(Words { next, ..self })
     }
 
     // With a file, or with the number of a record behind it.
-    fn with_plain(mut self, text: &[u8]) -> Asked {
-        let command = self.command;
-        if self.file == 0 {
-            self.file = self.at;
-            return self;
+    fn with_plain(self, at: usize, text: &[u8]) -> Result<Words, Wrong> {
+        if self.file.is_none() {
+            return Ok(Words {
+                file: Some(at),
+                ..self
+            });
         }
-        if command.looks_up() {
-            return self.with_record(text);
+        if !self.command.looks_up() || self.record.is_some() {
+            return Err(Wrong::OneTooMany);
         }
-        self.but(ONE_TOO_MANY)
-    }
-
-    // With an option that not every command has, or with a plain word.
-    fn with_own(self, text: &[u8]) -> Asked {
-        let command = self.command;
-        if and(command.makes(), same(text, b"-o")) {
-            return self.awaiting(OUTPUT);
-        }
-        if and(command.can_extend(), same(text, b"--extend")) {
-            return self.with_extending();
-        }
-        if and(command.looks_up(), same(text, b"--marks")) {
-            return self.awaiting(MARKS);
-        }
-        if is_option(text) {
-            return self.but(UNKNOWN);
-        }
-        self.with_plain(text)
+        let record = number_of(text)?;
+        Ok(Words {
+            record: Some(record),
+            ..self
+        })
     }
 
     // With an option or a plain word.
-    fn with_any(self, text: &[u8]) -> Asked {
-        if same(text, b"--help") {
-            return self.with_help();
-        }
-        if same(text, b"--x") {
-            return self.awaiting(LOWEST);
-        }
-        if same(text, b"--tries") {
-            return self.awaiting(TRIES);
-        }
-        self.with_own(text)
-    }
-
-    fn with_text(self, text: &[u8]) -> Asked {
-        if self.next == ANY {
-            return self.with_any(text);
-        }
-        if self.next == OUTPUT {
-            return self.with_output();
-        }
-        if self.next == MARKS {
-            return self.with_marks();
-        }
-        match number_of(text) {
-            Number::Is(n) => self.with_number(narrow(n)),
-            Number::No => self.but(NO_NUMBER),
+    fn with_any(self, at: usize, text: &[u8]) -> Result<Words, Wrong> {
+        match text {
+            b"--x" => self.awaiting(Next::Lowest),
+            b"--tries" => self.awaiting(Next::Tries),
+            b"-o" if self.command.makes() => self.awaiting(Next::Output),
+            b"--marks" if self.command.looks_up() => self.awaiting(Next::Marks),
+            b"--extend" if self.command.can_extend() => Ok(Words {
+                extends: true,
+                ..self
+            }),
+            _ if is_option(text) => Err(Wrong::Unknown),
+            _ => self.with_plain(at, text),
         }
     }
 
-    // With the word of this number, or one that is too long; none once something is wrong.
-    fn with_word(mut self, at: usize, text: &[u8], whole: bool) -> Asked {
-        if self.wrong != NOTHING {
-            return self;
+    // With the word of this number.
+    fn with_word(mut self, at: usize, text: &[u8]) -> Result<Words, Wrong> {
+        let awaited = self.next;
+        self.next = Next::Any;
+        match awaited {
+            Next::Any => return self.with_any(at, text),
+            Next::Lowest => {
+                self.limits.lowest = start_number(text)?;
+                self.next = Next::Highest;
+            }
+            Next::Highest => self.limits.highest = start_number(text)?,
+            Next::Tries => self.limits.tries = start_number(text)?,
+            Next::Output => self.output = once(self.output, at)?,
+            Next::Marks => self.marks = once(self.marks, at)?,
         }
-        self.at = at;
-        if whole {
-            return self.with_text(text);
-        }
-        self.but(WORD_TOO_LONG)
+        Ok(self)
     }
 
     // When all words are read: what is missing is wrong.
-    fn whole(self) -> Asked {
-        let command = self.command;
-        if self.wrong != NOTHING {
-            return self;
+    fn whole(self) -> Result<Asked, Wrong> {
+        if self.next != Next::Any {
+            return Err(Wrong::NoValue);
         }
-        if self.next != ANY {
-            return self.but(NO_VALUE);
-        }
-        if self.file == 0 {
-            return self.but(NO_FILE);
-        }
-        if and(command.makes(), self.output == 0) {
-            return self.but(NO_OUTPUT);
-        }
-        if and(command.looks_up(), negated(self.counted)) {
-            return self.but(NO_RECORD);
-        }
-        self
+        let file = self.file.ok_or(Wrong::NoFile)?;
+        let work = match self.command {
+            Command::Judge => Work::Judge,
+            Command::Produce => Work::Produce {
+                output: self.output.ok_or(Wrong::NoOutput)?,
+            },
+            Command::Marks => Work::Marks {
+                output: self.output.ok_or(Wrong::NoOutput)?,
+                extends: self.extends,
+            },
+            Command::State => Work::State {
+                record: self.record.ok_or(Wrong::NoRecord)?,
+                marks: self.marks,
+            },
+            Command::Shunter => Work::Shunter,
+            Command::Sets => Work::Sets,
+        };
+        Ok(Asked {
+            limits: self.limits,
+            file,
+            work,
+        })
     }
 }
 
-// What the words behind this command ask for.
-pub(crate) fn read_words(rt: &HostRuntime, command: Command) -> Asked {
-    let mut so_far = Asked::nothing(command);
-    for i in 2..usize::MAX {
+// What the words behind this command ask for. A word that is an option and asks for help does so, if nothing is wrong before it.
+pub(crate) fn read_words(rt: &HostRuntime, command: Command) -> Result<Request, Misuse> {
+    let mut words = Words::none(command);
+    let mut reached = 0;
+    for at in 2..usize::MAX {
         let mut room = buffer();
-        match rt.arg(i, &mut room) {
+        let more = match rt.arg(at, &mut room) {
             Ok(n) => {
-                so_far = so_far.with_word(i, front(&room, n), true);
+                let text = front(&room, n);
+                if words.next == Next::Any && text == HELP {
+                    return Ok(Request::Help);
+                }
+                words.with_word(at, text)
             }
-            Err(FillError::TooLong) => {
-                so_far = so_far.with_word(i, b"", false);
-            }
-            Err(FillError::NotPresent) => {
-                break;
-            }
-        }
+            Err(FillError::TooLong) => Err(Wrong::WordTooLong),
+            Err(FillError::NotPresent) => break,
+        };
+        words = more.map_err(|wrong| Misuse { wrong, at })?;
+        reached = at;
     }
-    so_far.whole()
+    match words.whole() {
+        Ok(asked) => Ok(Request::Run(asked)),
+        Err(wrong) => Err(Misuse { wrong, at: reached }),
+    }
 }

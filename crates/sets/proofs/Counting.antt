@@ -3,6 +3,7 @@
 -- Proves: count_in-append, count_in-map, count_in-none, count_in-all, count_in-same, count_in-parts, none-fails, all_pass, within-counted,
 -- counted-within, member_is, count_in-without, many-set, many-in, member-many, many-everyone, many-size, many-both, where-ok,
 -- stands-within.
+use Rattle.std.specs.Prelude.{Option, Some, None}
 use mathlib.Core.Path.{◌≡◌, refl, ap, ap₂, subst}
 use mathlib.Core.Bool.{Bool, true, false, cond, ◌&&◌, ◌||◌, not}
 use mathlib.Core.List.{List, [], ◌∷◌, ◌++◌, map}
@@ -20,8 +21,6 @@ use Rattle.sets.specs.declared.members.Member.{Member}
 use Rattle.sets.specs.declared.names.SetName.{SetName}
 use Rattle.sets.specs.declared.names.SetName.TheVariants.{Calling, Contacted, IncomingSessions, OutgoingSessions, LostSessions}
 use Rattle.sets.specs.declared.names.SetName.TheVariants.{TerminatingSessions}
-use Rattle.sets.specs.declared.names.Whereabouts.{Whereabouts}
-use Rattle.sets.specs.declared.names.Whereabouts.TheVariants.{Within, Nowhere}
 
 -- of two lists as many pass as of the one and of the other
 pub count_in-append : (test : Member → Bool) (xs ys : List Member) → count_in test (xs ++ ys) ≡ count_in test xs + count_in test ys
@@ -65,7 +64,7 @@ count_in-same test other same (m ∷ ms) = ap₂ (λ b k. as_bit b + k) (same m)
 pub count_in-parts : (test passed failed : Member → Bool) (ms : List Member)
     → count_in (λ m. cond (test m) (passed m) (failed m)) ms
     ≡ count_in passed (those test ms) + count_in failed (those (λ m. not (test m)) ms)
-unfolding count_in those
+unfolding count_in
 count_in-parts test passed failed [] = refl
 count_in-parts test passed failed (m ∷ ms) = by (test m) (count_in-parts test passed failed ms)
   where
@@ -80,7 +79,7 @@ count_in-parts test passed failed (m ∷ ms) = by (test m) (count_in-parts test 
 
 -- no member fails a test exactly where all pass it
 pub none-fails : (test : Member → Bool) (ms : List Member) → count_in (λ m. not (test m)) ms ≡ 0 → all_of test ms ≡ true
-unfolding count_in all_of
+unfolding count_in
 none-fails test [] none = refl
 none-fails test (m ∷ ms) none = by (test m) (none-fails test ms) none
   where
@@ -93,14 +92,14 @@ none-fails test (m ∷ ms) none = by (test m) (none-fails test ms) none
 
 -- and the other way round
 pub all_pass : (test : Member → Bool) (ms : List Member) → all_of test ms ≡ true → count_in (λ m. not (test m)) ms ≡ 0
-unfolding count_in all_of
+unfolding count_in
 all_pass test [] ok = refl
 all_pass test (m ∷ ms) ok =
     ap₂ (λ b k. as_bit (not b) + k) (and_left (test m) (all_of test ms) ok) (all_pass test ms (and_right (test m) (all_of test ms) ok))
 
 -- a partner that is a member is counted, and one that is none is not
 pub within-counted : (p : Partner) (ms : List Member) → has_member p ms ≡ true → 1 ≤ count_in (is_for p) ms
-unfolding count_in has_member
+unfolding count_in
 within-counted p [] is = true-false false is refl
 within-counted p (m ∷ ms) is = by (is_for p m) (within-counted p ms) is
   where
@@ -115,7 +114,7 @@ within-counted p (m ∷ ms) is = by (is_for p m) (within-counted p ms) is
 
 -- and where nobody is the partner none is counted
 pub counted-within : (p : Partner) (ms : List Member) → has_member p ms ≡ false → count_in (is_for p) ms ≡ 0
-unfolding count_in has_member
+unfolding count_in
 counted-within p [] none = refl
 counted-within p (m ∷ ms) none = by (is_for p m) (counted-within p ms) none
   where
@@ -130,7 +129,7 @@ counted-within p (m ∷ ms) none = by (is_for p m) (counted-within p ms) none
 
 -- the member found is the partner
 pub member_is : (p : Partner) (ms : List Member) → has_member p ms ≡ true → is_for p (member_for p ms) ≡ true
-unfolding has_member member_for
+unfolding member_for
 member_is p [] is = true-false false is refl
 member_is p (m ∷ ms) is = by (is_for p m) refl (member_is p ms) is
   where
@@ -146,7 +145,7 @@ member_is p (m ∷ ms) is = by (is_for p m) refl (member_is p ms) is
 pub count_in-without : (test : Member → Bool) (p : Partner) (ms : List Member)
     → has_member p ms ≡ true
     → count_in test (without p ms) + as_bit (test (member_for p ms)) ≡ count_in test ms
-unfolding count_in has_member member_for without
+unfolding count_in member_for without
 count_in-without test p [] is = true-false false is refl
 count_in-without test p (m ∷ ms) is = by (is_for p m) (count_in-without test p ms) is
   where
@@ -247,9 +246,9 @@ many-both test other all sum x =
     omega arith
 
 -- what the six tests say of where a partner stands
-abbrev pub WhereOk : Partner → Six → Whereabouts → Type 0
-WhereOk p x (Within w) = has_member p (set_in w x) ≡ true
-WhereOk p x Nowhere = many (λ w. is_for p) x ≡ 0
+abbrev pub WhereOk : Partner → Six → Option SetName → Type 0
+WhereOk p x (Some w) = has_member p (set_in w x) ≡ true
+WhereOk p x None = many (λ w. is_for p) x ≡ 0
 
 -- they do say it
 pub where-ok : (p : Partner) (x : Six) → WhereOk p x (whereabouts p x)
@@ -276,5 +275,5 @@ where-ok p x =
     omega arith))))))
 
 -- a partner is a member of the set that it stands in
-pub stands-within : (p : Partner) (x : Six) (w : SetName) → whereabouts p x ≡ Within w → has_member p (set_in w x) ≡ true
+pub stands-within : (p : Partner) (x : Six) (w : SetName) → whereabouts p x ≡ Some w → has_member p (set_in w x) ≡ true
 stands-within p x w found = subst (WhereOk p x) found (where-ok p x)

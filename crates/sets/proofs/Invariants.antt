@@ -43,7 +43,7 @@ found-sound : (test : Member → Bool) (p : Partner) (ms : List Member)
     → all_of test ms ≡ true
     → has_member p ms ≡ true
     → test (member_for p ms) ≡ true
-unfolding all_of has_member member_for
+unfolding member_for
 found-sound test p [] ok is = true-false false is refl
 found-sound test p (m ∷ ms) ok is =
     by (is_for p m) (found-sound test p ms (and_right (test m) (all_of test ms) ok)) is

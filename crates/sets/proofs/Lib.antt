@@ -4,12 +4,11 @@ pub mod FourItems
 pub mod MemberLoops
 pub mod Counting
 pub mod SixLaws
+pub mod SixByName
 pub mod SentLaws
 pub mod StepLaws
 pub mod SetFew
 pub mod SetSent
-pub mod SetCounts
-pub mod SetGoing
 pub mod Meaning
 pub mod SameClosings
 pub mod SameSearch

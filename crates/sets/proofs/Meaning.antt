@@ -323,7 +323,7 @@ seat-passes l test w m ok = by w m.direction m.tries (and_right (named_ok m.part
 seats-passing : (l : Limits) (test : SetName → Member → Bool) (w : SetName) (ms : List Member)
     → all_of (member_ok l w) ms ≡ true
     → sum (here (place_passes test)) (map (seat_of w) ms) ≡ count_in (test w) ms
-unfolding sum count_in all_of
+unfolding sum count_in
 seats-passing l test w [] ok = refl
 seats-passing l test w (m ∷ ms) ok =
     ap₂ (λ b k. as_bit b + k) (seat-passes l test w m (and_left (member_ok l w m) (all_of (member_ok l w) ms) ok))

@@ -1,102 +1,45 @@
 -- A set as the code walks over its members, and as it adds one or takes one out.
--- Defines: SoughtTo, spared.
--- Proves: held-length, held-member, held-rest, held_next, held_none, held_all, held-there, held-absent, sought-none, sought-here,
--- sought-later, tidy-by, with-last, without_at, without-none, grown-room, grown, joined-next, changed-next, those-next, those-left.
+-- Proves: held-few, held-most, held-member, rest_lent, tidy-by, with-last, found-below, without_at, without-none, grown-room, grown,
+-- grown-form, joined-next, changed-next, those-next, those-left.
 use mathlib.Core.Path.{◌≡◌, refl, sym, ap, ap₂, subst⁻¹, ◌∙◌}
 use mathlib.Core.Bool.{Bool, true, false, cond, ◌&&◌}
 use mathlib.Core.List.{List, [], ◌∷◌, ◌++◌, map, map-append, append_assoc, append-nil}
 use Prim.Native.Nat.{ℕ, zero, suc, ◌+◌, ◌-◌, ◌≤◌, ◌<◌}
-use native.Mathlib.Numerals.{add-one}
 use native.Mathlib.Omega.{arith}
 use lib.Dec.{leb}
 use lib.ListN.{length, length-append, length-drop, get_or, take, drop, set, drop_of_length-le}
-use lib.Seq.{length-take-le, get_or-take, drop-cons, take-suc, take_all}
-use borrow.Author.Tests.{lt-ltb, le-ltb, eq-eqb}
+use lib.Seq.{get_or-take, take_all}
+use Rattle.std.proofs.lemmas.List.{length-take}
+use borrow.Author.Tests.{eq-eqb}
+use Rattle.std.specs.Prelude.{Some, None, position}
+use Rattle.std.specs.List.{position_or_len, copy_within}
 use Rattle.wire.proofs.Padded.{padded-push}
 use Rattle.record.specs.declared.partner.Partner.{Partner}
-use Rattle.sets.specs.Members.{most_members, no_member, is_for, has_member, without, joining, those, all_of, is_no_member}
+use Rattle.sets.specs.Members.{most_members, no_member, is_for, without, joining, those, all_of, is_no_member}
 use Rattle.sets.specs.Members.{members_of, set_of, tidy}
-use Rattle.sets.specs.Holding.{first_for}
 use Rattle.sets.specs.declared.members.Member.{Member}
 use Rattle.sets.specs.declared.members.Members.{Members}
 use Rattle.sets.proofs.Packing.{members-set, set-tidy, set-members, tidy-count, tidy-length}
-use Rattle.sets.proofs.MemberLaws.{first-here, first-later, within_first, without-first, those-append}
+use Rattle.sets.proofs.MemberLaws.{found-at, found-none, without-first, those-append}
 
--- a set with room for four, read at a number
-module _ (s : Members) (long : length s.items ≡ most_members) (few : s.count ≤ most_members) where
-  -- the count is how many members there are
-  pub held-length : length (members_of s) ≡ s.count
-  unfolding members_of
-  held-length = length-take-le s.count s.items (omega arith)
+-- the members are no more than the count
+pub held-few : (s : Members) → length (members_of s) ≤ s.count
+unfolding members_of
+held-few s = omega (arith, length-take s.count s.items)
 
-  module _ (i : ℕ) (below : i < s.count) where
-    -- a member is the item of its number
-    pub held-member : get_or (members_of s) i no_member ≡ get_or s.items i no_member
-    unfolding members_of
-    held-member = get_or-take s.count s.items i no_member below
+-- nor more than there is room for
+pub held-most : (s : Members) → length s.items ≡ most_members → length (members_of s) ≤ most_members
+unfolding members_of
+held-most s long = omega (arith, length-take s.count s.items)
 
-    -- the members from there on
-    pub held-rest : drop i (members_of s) ≡ get_or s.items i no_member ∷ drop (i + 1) (members_of s)
-    held-rest =
-        drop-cons (members_of s) i no_member (omega (arith, held-length))
-        ∙ ap₂ (λ m k. m ∷ drop k (members_of s)) held-member (sym (add-one i))
+-- a member is the item of its number
+pub held-member : (s : Members) (i : ℕ) → i < s.count → get_or (members_of s) i no_member ≡ get_or s.items i no_member
+unfolding members_of
+held-member s i below = get_or-take s.count s.items i no_member below
 
-    -- the members up to there, and this one
-    pub held_next : take (i + 1) (members_of s) ≡ take i (members_of s) ++ (get_or s.items i no_member ∷ [])
-    held_next =
-        ap (λ k. take k (members_of s)) (add-one i)
-        ∙ take-suc (members_of s) i no_member (omega (arith, held-length))
-        ∙ ap (λ m. take i (members_of s) ++ (m ∷ [])) held-member
-
-  module _ (i : ℕ) (above : s.count ≤ i) where
-    -- at the end none is left
-    pub held_none : drop i (members_of s) ≡ []
-    held_none =
-        let over : length (members_of s) ≤ i = omega (arith, held-length) in
-        drop_of_length-le (members_of s) over
-
-    -- and all are taken
-    pub held_all : take i (members_of s) ≡ members_of s
-    held_all = take_all i (members_of s) (omega (arith, held-length))
-
-  -- a partner looked for from a number on
-  module _ (p : Partner) (from r : ℕ) (found : r ≡ from + first_for p (drop from (members_of s))) where
-    -- the members from that number on
-    abbrev after : List Member
-    after = drop from (members_of s)
-
-    -- as many as the count has from there
-    long_after : length after ≡ s.count - from
-    long_after = length-drop from (members_of s) ∙ ap (λ n. n - from) held-length
-
-    -- it is there
-    pub held-there : r < s.count → has_member p after ≡ true
-    held-there below = within_first p after ∙ lt-ltb (first_for p after) (length after) (omega (arith, long_after))
-
-    -- or it is not
-    pub held-absent : s.count ≤ r → has_member p after ≡ false
-    held-absent above = within_first p after ∙ le-ltb (first_for p after) (length after) (omega (arith, long_after))
-
--- a search that has passed the members from one number up to another without finding the partner
-abbrev pub SoughtTo : Partner → List Member → ℕ → ℕ → Type 0
-SoughtTo p ms from i = from + first_for p (drop from ms) ≡ i + first_for p (drop i ms)
-
-module _ (p : Partner) (ms : List Member) (from i : ℕ) (so_far : SoughtTo p ms from i) where
-  -- at the end
-  pub sought-none : drop i ms ≡ [] → i ≡ from + first_for p (drop from ms)
-  unfolding first_for
-  sought-none end =
-      let none : first_for p (drop i ms) ≡ 0 = ap (first_for p) end in
-      omega arith
-
-  module _ (m : Member) (is : drop i ms ≡ m ∷ drop (i + 1) ms) where
-    -- at the partner
-    pub sought-here : is_for p m ≡ true → i ≡ from + first_for p (drop from ms)
-    sought-here same = omega (arith, first-here (drop i ms) (drop (i + 1) ms) m is p same)
-
-    -- and at another
-    pub sought-later : is_for p m ≡ false → SoughtTo p ms from (i + 1)
-    sought-later other = omega (arith, first-later (drop i ms) (drop (i + 1) ms) m is p other)
+-- what is lent of a list from a number on is the rest of it
+pub rest_lent : (l : List Member) (i : ℕ) → take (length l - i) (drop i l) ≡ drop i l
+rest_lent l i = take_all (length l - i) (drop i l) (omega (arith, length-drop i l))
 
 -- how the code tests what stands after the count
 pub tidy-by : (s : Members) (few none : Bool)
@@ -124,18 +67,12 @@ with-last s m ok room =
         → record { items = set (set_of ms).items (set_of ms).count m; count = (set_of ms).count + 1 } ≡ set_of (joining ms m)
     by ms few = λ i. record { items = padded-push 3 no_member m ms few i; count = sym (length-append ms (m ∷ [])) i }
 
--- the items of a set without the one of this number, as the code lists them, with what stands after them
-abbrev pub spared : Member → ℕ → List Member → List Member
-spared none zero l = get_or l 1 no_member ∷ get_or l 2 no_member ∷ get_or l 3 no_member ∷ none ∷ []
-spared none (suc zero) l = get_or l 0 no_member ∷ get_or l 2 no_member ∷ get_or l 3 no_member ∷ none ∷ []
-spared none (suc (suc zero)) l = get_or l 0 no_member ∷ get_or l 1 no_member ∷ get_or l 3 no_member ∷ none ∷ []
-spared none (suc (suc (suc k))) l = get_or l 0 no_member ∷ get_or l 1 no_member ∷ get_or l 2 no_member ∷ none ∷ []
-
--- which is the set of the others
+-- a set without the member of this number, as the code moves up the items after it
 spared-is : (ms : List Member) (k : ℕ)
     → k < length ms
     → length ms ≤ most_members
-    → record { items = spared no_member k (set_of ms).items; count = length ms - 1 } ≡ set_of (take k ms ++ drop (suc k) ms)
+    → record { items = set (copy_within (set_of ms).items (k + 1) most_members k) 3 no_member; count = length ms - 1 }
+    ≡ set_of (take k ms ++ drop (suc k) ms)
 unfolding set_of
 spared-is [] k below few = absurd (omega arith)
 spared-is (a ∷ []) zero below few = refl
@@ -154,32 +91,36 @@ spared-is (a ∷ b ∷ c ∷ d ∷ []) (suc (suc (suc zero))) below few = refl
 spared-is (a ∷ b ∷ c ∷ d ∷ []) (suc (suc (suc (suc k)))) below few = absurd (omega arith)
 spared-is (a ∷ b ∷ c ∷ d ∷ e ∷ ms) k below few = absurd (omega arith)
 
--- a set without the partner, by its number
-pub without_at : (s : Members) (p : Partner) (k : ℕ) (none : Member)
-    → tidy s ≡ true
-    → none ≡ no_member
-    → k ≡ first_for p (members_of s)
-    → k < s.count
-    → record { items = spared none k s.items; count = s.count - 1 } ≡ set_of (without p (members_of s))
-unfolding set_of
-without_at s p k none ok zeros found below =
-    let long = tidy-length s ok in
-    ap₂ (λ m x. record { items = spared m k x.items; count = x.count - 1 }) zeros (sym (set-members s ok))
-    ∙ spared-is (members_of s) k (omega arith) (omega (arith, tidy-count s ok))
-    ∙ ap set_of (ap (λ n. take n (members_of s) ++ drop (suc n) (members_of s)) found ∙ sym (without-first p (members_of s)))
+-- a set in its form, and where a search for a partner in it ends
+module _ (s : Members) (p : Partner) (ok : tidy s ≡ true) where
+  -- at one of its members: it is left with the others
+  module _ (k : ℕ) (found : Some k ≡ position (is_for p) (members_of s)) where
+    pub found-below : k < s.count
+    found-below = omega (arith, (found-at p (members_of s) k found).1, tidy-length s ok)
 
--- a partner that is no member leaves the set as it is
-pub without-none : (s : Members) (p : Partner)
-    → tidy s ≡ true
-    → s.count ≤ first_for p (members_of s)
-    → s ≡ set_of (without p (members_of s))
-without-none s p ok none =
-    let k = first_for p (members_of s) in
-    let ms = members_of s in
-    let over : length ms ≤ k = omega (arith, tidy-length s ok) in
-    let past : length ms ≤ suc k = omega arith in
-    sym (set-members s ok)
-    ∙ ap set_of (sym (without-first p ms ∙ ap₂ ◌++◌ (take_all k ms over) (drop_of_length-le ms past) ∙ append-nil ms))
+    pub without_at : (moved : List Member) (none : Member)
+        → moved ≡ copy_within s.items (k + 1) most_members k
+        → none ≡ no_member
+        → record { items = set moved 3 none; count = s.count - 1 } ≡ set_of (without p (members_of s))
+    unfolding set_of
+    without_at moved none is zeros =
+        let ms = members_of s in
+        let at = found-at p ms k found in
+        ap₂ (λ l m. record { items = set l 3 m; count = s.count - 1 }) is zeros
+        ∙ ap (λ x. record { items = set (copy_within x.items (k + 1) most_members k) 3 no_member; count = x.count - 1 })
+        (sym (set-members s ok))
+        ∙ spared-is ms k at.1 (omega (arith, tidy-count s ok, tidy-length s ok))
+        ∙ ap set_of (ap (λ n. take n ms ++ drop (suc n) ms) at.0 ∙ sym (without-first p ms))
+
+  -- or at none: it stays as it is
+  pub without-none : None ≡ position (is_for p) (members_of s) → s ≡ set_of (without p (members_of s))
+  without-none none =
+      let ms = members_of s in
+      let k = position_or_len (is_for p) ms in
+      let over : length ms ≤ k = found-none p ms none in
+      let past : length ms ≤ suc k = omega arith in
+      sym (set-members s ok)
+      ∙ ap set_of (sym (without-first p ms ∙ ap₂ ◌++◌ (take_all k ms over) (drop_of_length-le ms past) ∙ append-nil ms))
 
 -- a set that has grown to these members, while there is room for one more
 module _ (s : Members) (ms : List Member) (is : s ≡ set_of ms) (few : length ms < most_members) where
@@ -192,6 +133,20 @@ module _ (s : Members) (ms : List Member) (is : s ≡ set_of ms) (few : length m
   pub grown : (m : Member) (r : Members) → r ≡ set_of (joining (members_of s) m) → r ≡ set_of (ms ++ (m ∷ []))
   grown m r more = more ∙ ap (λ l. set_of (joining l m)) (ap members_of is ∙ members-set ms (omega arith))
 
+-- a set that has got one more is in its form, and counts one more
+pub grown-form : (s r : Members) (m : Member)
+    → tidy s ≡ true
+    → s.count < most_members
+    → r ≡ set_of (joining (members_of s) m)
+    → (tidy r ≡ true) × (r.count ≡ s.count + 1)
+unfolding set_of
+grown-form s r m ok room is =
+    let many = length-append (members_of s) (m ∷ []) in
+    let all = tidy-length s ok in (
+      ap tidy is ∙ set-tidy (joining (members_of s) m) (omega arith),
+      ap (λ x. x.count) is ∙ many ∙ ap (λ n. n + 1) all,
+    )
+
 -- a list of which one member more was walked over
 module _ (xs ys : List Member) (m : Member) (is : ys ≡ xs ++ (m ∷ [])) where
   -- it follows what stands before the list
@@ -199,18 +154,16 @@ module _ (xs ys : List Member) (m : Member) (is : ys ≡ xs ++ (m ∷ [])) where
   joined-next ms = append_assoc ms xs (m ∷ []) ∙ ap (◌++◌ ms) (sym is)
 
   -- and so where each is changed
-  pub changed-next : (ms : List Member) (f : Member → Member) → (ms ++ map f xs) ++ (f m ∷ []) ≡ ms ++ map f ys
-  changed-next ms f = append_assoc ms (map f xs) (f m ∷ []) ∙ ap (◌++◌ ms) (sym (ap (map f) is ∙ map-append f xs (m ∷ [])))
+  pub changed-next : (f : Member → Member) → map f xs ++ (f m ∷ []) ≡ map f ys
+  changed-next f = sym (ap (map f) is ∙ map-append f xs (m ∷ []))
 
   -- it is one of those that pass
   pub those-next : (test : Member → Bool) → test m ≡ true → those test ys ≡ those test xs ++ (m ∷ [])
-  unfolding those
   those-next test passes =
       ap (those test) is ∙ those-append test xs (m ∷ []) ∙ ap (λ b. those test xs ++ cond b (m ∷ []) []) passes
 
   -- or it is not
   pub those-left : (test : Member → Bool) → test m ≡ false → those test ys ≡ those test xs
-  unfolding those
   those-left test fails =
       ap (those test) is
       ∙ those-append test xs (m ∷ [])

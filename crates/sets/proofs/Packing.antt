@@ -37,7 +37,6 @@ members-set ms few = padded-take most_members no_member ms few
 padded-after : (n k : ℕ) (ms : List Member)
     → length ms ≤ n
     → all_of is_no_member (drop (length ms) (take n (ms ++ replicate k no_member))) ≡ true
-unfolding all_of
 padded-after n k [] few = by n k
   where
     by : (n k : ℕ) → all_of is_no_member (take n (replicate k no_member)) ≡ true
@@ -103,7 +102,6 @@ filled : (n c : ℕ) (ms : List Member)
     → (k : ℕ)
     → n ≤ k + c
     → take n (take c ms ++ replicate k no_member) ≡ ms
-unfolding all_of
 filled n zero ms long few none k enough = padded ms n long none k enough
   where
     padded : (ms : List Member) (n : ℕ)

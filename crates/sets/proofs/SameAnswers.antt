@@ -12,8 +12,8 @@ use Rattle.wire.proofs.Tests.{and_both, cond-case}
 use Rattle.record.specs.Records.{reading}
 use Rattle.record.specs.Ranges.{reading_ok}
 use Rattle.record.specs.declared.event.Event.{Event}
-use Rattle.record.specs.declared.event.Reading.{Reading}
-use Rattle.record.specs.declared.event.Reading.TheVariants.{Meant, Refused}
+use Rattle.record.specs.Readings.{Reading}
+use Rattle.record.specs.Readings.{Meant, Refused}
 use Rattle.record.proofs.Ranges.{reading-ok}
 use Rattle.place.specs.declared.limits.Limits.{Limits}
 use Rattle.wire.specs.Sums.{sum}
@@ -26,7 +26,7 @@ use Rattle.unit.proofs.Facts.{sound-facts}
 use Rattle.unit.proofs.Sound.{step-sound, on_record-sound}
 use Rattle.unit.proofs.Starts.{cold-sound}
 use Rattle.history.specs.Histories.{after}
-use Rattle.sets.specs.Members.{all_of, apart}
+use Rattle.sets.specs.Members.{apart}
 use Rattle.sets.specs.SixSets.{Sets, size, everyone, members_ok, sound_sets, unpacked, packed_sets, set_ready, cold_sets}
 use Rattle.sets.specs.SixSets.{set_cold, set_start}
 use Rattle.sets.specs.SetSteps.{SetOutcome, set_refused, set_step}
@@ -215,7 +215,7 @@ cold-alike l = either_same (limits_ok l) _ _ _ _ (refl, cold-same l) (refl, cold
 -- a cold start is sound, a refused one too
 -- promise
 pub cold-ready : (l : Limits) → set_ready (set_start l).state ≡ true
-unfolding set_start set_cold sound_sets members_ok everyone size all_of apart
+unfolding set_start set_cold sound_sets members_ok everyone size apart
 cold-ready l =
     cond-case (λ (o : SetStarted). set_ready o.state ≡ true) (limits_ok l) _ _
     (λ ok. ready-packed (cold_sets l) (and_both (limits_ok l) true ok refl))

@@ -12,8 +12,8 @@ use Rattle.wire.proofs.Tests.{true-false}
 use Rattle.record.specs.Takes.{longest_log, taken, on_taken}
 use Rattle.record.specs.TakeWords.{TakenOk}
 use Rattle.record.proofs.Takes.{taken-ok}
-use Rattle.record.specs.declared.take.Taken.{Taken}
-use Rattle.record.specs.declared.take.Taken.TheVariants.{Whole, Stopped, Refused}
+use Rattle.record.specs.Takes.{Taken}
+use Rattle.record.specs.Takes.{Whole, Stopped, Overlong}
 use Rattle.place.specs.Table.{request, release, incompatible, initiate, terminate, established}
 use Rattle.unit.specs.Kept.{count}
 use Rattle.unit.specs.OnRecords.{action_room, on_record}
@@ -26,10 +26,12 @@ use Rattle.unit.specs.declared.state.State.{State}
 use Rattle.unit.proofs.Again.Records.{total_of-counts}
 use Rattle.sets.specs.SixSets.{unpacked, set_ready}
 use Rattle.sets.specs.OnSets.{on_sets}
-use Rattle.sets.specs.SetRuns.{set_fresh, set_counted, set_ended, set_go, set_run_refused, set_run}
+use Rattle.runs.specs.MachineRuns.{machine_fresh, machine_counted, machine_ended, machine_go, machine_run}
+use Rattle.sets.specs.SetRuns.{set_gives, set_run}
+use Rattle.sets.specs.SetGoings.{set_go, set_run_refused}
 use Rattle.sets.specs.SameSets.{SameState}
 use Rattle.sets.specs.SameWords.{SameReport}
-use Rattle.sets.specs.declared.run.SetTally.{SetTally}
+use Rattle.runs.specs.declared.run.MachineTally.{MachineTally}
 use Rattle.sets.specs.declared.state.SetState.{SetState}
 use Rattle.sets.proofs.SameAnswers.{Alike, same_answer, alike_next}
 
@@ -52,7 +54,7 @@ totals-same t xs ys same =
     }
 
 -- two runs so far that are the same
-record SoFar (t : Tally) (u : SetTally) : Type 0 where
+record SoFar (t : Tally) (u : MachineTally SetState) : Type 0 where
   alike : Alike t.state u.state
   offset : t.offset ≡ u.offset
   read : t.read ≡ u.read
@@ -60,7 +62,7 @@ record SoFar (t : Tally) (u : SetTally) : Type 0 where
   totals : t.totals ≡ u.totals
 
 -- and stop
-stops_same : (t : Tally) (u : SetTally) (stop : ℕ) → SoFar t u → SameReport (ended t stop) (set_ended u stop)
+stops_same : (t : Tally) (u : MachineTally SetState) (stop : ℕ) → SoFar t u → SameReport (ended t stop) (machine_ended u stop)
 stops_same t u stop same =
     record {
       code = refl;
@@ -73,10 +75,10 @@ stops_same t u stop same =
     }
 
 -- with one record more
-counted_same : (t : Tally) (u : SetTally) (bytes : List ℕ) (k : ℕ)
+counted_same : (t : Tally) (u : MachineTally SetState) (bytes : List ℕ) (k : ℕ)
     → SoFar t u
-    → SoFar (counted t k (on_record t.state bytes action_room)) (set_counted u k (on_sets u.state bytes action_room))
-unfolding counted set_counted
+    → SoFar (counted t k (on_record t.state bytes action_room)) (machine_counted u k (set_gives u.state bytes))
+unfolding counted machine_counted
 counted_same t u bytes k same =
     let alike = same.alike in
     let answer = same_answer t.state u.state alike.sound alike.ready alike.same bytes action_room in
@@ -92,17 +94,17 @@ counted_same t u bytes k same =
     }
 
 -- they go on the same, whatever the budget and the log
-goes_same : (budget : ℕ) (t : Tally) (u : SetTally) (log : List ℕ)
+goes_same : (budget : ℕ) (t : Tally) (u : MachineTally SetState) (log : List ℕ)
     → SoFar t u
     → SameReport (tallied t (course budget t.state log)) (set_go budget u log)
-unfolding tallied course set_go counted
+unfolding tallied course machine_go counted
 goes_same zero t u [] same = stops_same t u _ same
 goes_same zero t u (kind ∷ rest) same = stops_same t u _ same
 goes_same (suc budget) t u log same =
     by (taken log) (taken-ok log)
     (λ k.
     goes_same budget (counted t k (on_record t.state (take k log) action_room))
-    (set_counted u k (on_sets u.state (take k log) action_room))
+    (machine_counted u k (set_gives u.state (take k log)))
     (drop k log)
     (counted_same t u (take k log) k same))
   where
@@ -111,20 +113,20 @@ goes_same (suc budget) t u log same =
         → ((k : ℕ)
         → SameReport (tallied (counted t k (on_record t.state (take k log) action_room))
         (course budget (counted t k (on_record t.state (take k log) action_room)).state (drop k log)))
-        (set_go budget (set_counted u k (on_sets u.state (take k log) action_room)) (drop k log)))
+        (set_go budget (machine_counted u k (set_gives u.state (take k log))) (drop k log)))
         → SameReport
         (tallied t (on_taken x stops
         (λ k. applies (take k log) (on_record t.state (take k log) action_room)
         (course budget (on_record t.state (take k log) action_room).state (drop k log)))))
-        (on_taken x (set_ended u) (λ k. set_go budget (set_counted u k (on_sets u.state (take k log) action_room)) (drop k log)))
+        (on_taken x (machine_ended u) (λ k. set_go budget (machine_counted u k (set_gives u.state (take k log))) (drop k log)))
     by (Whole k r) (some, fits, reads) rest =
         subst⁻¹ (λ n. SameReport (tallied (counted t n (on_record t.state (take k log) action_room))
         (course budget (on_record t.state (take k log) action_room).state (drop k log)))
-        (set_go budget (set_counted u k (on_sets u.state (take k log) action_room)) (drop k log)))
+        (set_go budget (machine_counted u k (set_gives u.state (take k log))) (drop k log)))
         (length-take-le k log fits)
         (rest k)
     by (Stopped stop) ok rest = stops_same t u stop same
-    by (Refused r) ok rest = stops_same t u r same
+    by (Overlong r) ok rest = stops_same t u r same
 
 -- "records read, records refused, and a total for each of the six actions", the stop and the state: the same of both engines
 -- promise
@@ -134,10 +136,10 @@ pub same-run : (s : State) (b : SetState)
     → SameState s (unpacked b)
     → (log : List ℕ) (budget : ℕ)
     → SameReport (run s log budget) (set_run b log budget)
-unfolding run set_run
+unfolding run machine_run
 same-run s b ok ready same log budget = by (leb (length log) longest_log) (sound s) ok (set_ready b) ready
   where
-    start : SoFar (fresh s) (set_fresh b)
+    start : SoFar (fresh s) (machine_fresh b)
     start = record { alike = record { sound = ok; ready = ready; same = same }; offset = refl; read = refl; refused = refl; totals = refl }
 
     by : (c : Bool) (d : Bool)
@@ -146,8 +148,8 @@ same-run s b ok ready same log budget = by (leb (length log) longest_log) (sound
         → e ≡ true
         → SameReport
         (cond c (cond d (go budget (fresh s) log) (run_refused not_sound s)) (run_refused log_too_long s))
-        (cond c (cond e (set_go budget (set_fresh b) log) (set_run_refused not_sound b)) (set_run_refused log_too_long b))
-    by true true h true g = goes_same budget (fresh s) (set_fresh b) log start
+        (cond c (cond e (set_go budget (machine_fresh b) log) (set_run_refused not_sound b)) (set_run_refused log_too_long b))
+    by true true h true g = goes_same budget (fresh s) (machine_fresh b) log start
     by true true h false g = true-false false g refl
     by true false h e g = true-false false h refl
     by false d h e g =

@@ -1,5 +1,6 @@
 -- A search over places and the six tests over sets find the same.
 -- Proves: nowhere-none, found-same, stands-there, is_within, member-there, room-left, no_room.
+use Rattle.std.specs.Prelude.{Option, Some, None}
 use mathlib.Core.Path.{◌≡◌, refl, sym, ap, ◌∙◌, subst}
 use mathlib.Core.Bool.{Bool, true, false, ◌&&◌, not}
 use mathlib.Core.List.{List, [], ◌∷◌}
@@ -32,8 +33,6 @@ use Rattle.sets.specs.declared.members.Member.{Member}
 use Rattle.sets.specs.declared.names.SetName.{SetName}
 use Rattle.sets.specs.declared.names.SetName.TheVariants.{Calling, Contacted, IncomingSessions, OutgoingSessions, LostSessions}
 use Rattle.sets.specs.declared.names.SetName.TheVariants.{TerminatingSessions}
-use Rattle.sets.specs.declared.names.Whereabouts.{Whereabouts}
-use Rattle.sets.specs.declared.names.Whereabouts.TheVariants.{Within, Nowhere}
 use Rattle.sets.proofs.Counting.{within-counted, member_is, count_in-without, many-in, many-both, many-size, WhereOk, where-ok}
 use Rattle.sets.proofs.Counting.{stands-within}
 use Rattle.sets.proofs.Meaning.{Same}
@@ -106,16 +105,16 @@ alike_same w m v n ok =
 
 module _ (p : Partner) (ps : List Place) (x : Six) (same : Same ps x) where
   -- a partner with no place stands nowhere
-  pub nowhere-none : sum (here (holds p)) ps ≡ 0 → whereabouts p x ≡ Nowhere
+  pub nowhere-none : sum (here (holds p)) ps ≡ 0 → whereabouts p x ≡ None
   nowhere-none none = by (whereabouts p x) refl (where-ok p x)
     where
-      by : (o : Whereabouts) → whereabouts p x ≡ o → WhereOk p x o → whereabouts p x ≡ Nowhere
-      by (Within w) is ok =
+      by : (o : Option SetName) → whereabouts p x ≡ o → WhereOk p x o → whereabouts p x ≡ None
+      by (Some w) is ok =
           let held = same (λ w. is_for p) in
           let one = within-counted p (set_in w x) ok in
           let all = many-in (λ w. is_for p) w x in
           absurd (omega arith)
-      by Nowhere is ok = is
+      by None is ok = is
 
   -- one with a place stands in the set of its phase, as its member
   module _ (one : sum (here (holds p)) ps ≤ 1) (i : ℕ) (below : i < length ps) (d : Direction) (ph : Phase)
@@ -184,12 +183,12 @@ module _ (p : Partner) (ps : List Place) (x : Six) (same : Same ps x) where
         by false false h g = true-false false h refl
 
     -- where it stands
-    pub stands-there : whereabouts p x ≡ Within (name_of d ph)
+    pub stands-there : whereabouts p x ≡ Some (name_of d ph)
     stands-there = by (whereabouts p x) refl (where-ok p x)
       where
-        by : (o : Whereabouts) → whereabouts p x ≡ o → WhereOk p x o → whereabouts p x ≡ Within (name_of d ph)
-        by (Within v) is ok = is ∙ ap Within (sym (found-same v ok).0)
-        by Nowhere is ok =
+        by : (o : Option SetName) → whereabouts p x ≡ o → WhereOk p x o → whereabouts p x ≡ Some (name_of d ph)
+        by (Some v) is ok = is ∙ ap Some (sym (found-same v ok).0)
+        by None is ok =
             let held = same (λ w. is_for p) in
             let least = weigh-at (here (holds p)) ps i below in
             let itself : here (holds p) (get_or ps i vacant) ≡ 1 =

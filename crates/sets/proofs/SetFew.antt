@@ -1,5 +1,6 @@
 -- A step of the engine of sets has at most four actions, so that the code's array of four holds them all.
 -- Proves: apply-few.
+use Rattle.std.specs.Prelude.{Option, Some, None}
 use mathlib.Core.Path.{◌≡◌}
 use mathlib.Core.Bool.{Bool, true}
 use mathlib.Core.List.{List, [], ◌∷◌, map}
@@ -16,8 +17,8 @@ use Rattle.record.specs.declared.event.Cause.{Cause}
 use Rattle.record.specs.declared.event.Event.{Event}
 use Rattle.record.specs.declared.event.Event.TheVariants.{Level, Mission, Mode, Hole, Order, EndAll, Call, Named}
 use Rattle.record.specs.declared.event.PartnerEvent.{PartnerEvent}
-use Rattle.record.specs.declared.event.Reading.{Reading}
-use Rattle.record.specs.declared.event.Reading.TheVariants.{Meant, Refused}
+use Rattle.record.specs.Readings.{Reading}
+use Rattle.record.specs.Readings.{Meant, Refused}
 use Rattle.record.specs.declared.partner.Partner.{Partner}
 use Rattle.place.specs.Table.{request, established}
 use Rattle.place.specs.declared.turn.Closing.TheVariants.{Every}
@@ -34,8 +35,6 @@ use Rattle.sets.specs.SixSets.{Sets, set_in, size, whereabouts, on_whereabouts, 
 use Rattle.sets.specs.declared.moves.Move.{Move}
 use Rattle.sets.specs.declared.moves.Move.TheVariants.{Stays, Leaves, Enters, Sends, SendsBoth}
 use Rattle.sets.specs.declared.names.SetName.{SetName}
-use Rattle.sets.specs.declared.names.Whereabouts.{Whereabouts}
-use Rattle.sets.specs.declared.names.Whereabouts.TheVariants.{Within, Nowhere}
 use Rattle.sets.specs.declared.state.SetState.{SetState}
 use Rattle.sets.proofs.Packing.{ready-size}
 use Rattle.sets.proofs.SixLaws.{sent-size}
@@ -78,21 +77,21 @@ module _ (z : Sets) where
   unfolding set_named
   named-few p e = by (whereabouts p z.six)
     where
-      by : (w : Whereabouts)
+      by : (w : Option SetName)
           → Few (
           on_whereabouts w (λ v. set_moved z p v (move_of z.limits e v (member_for p (set_in v z.six))))
           (set_refused refusal.has_none z)
           )
-      by (Within w) = moved-few p w _
-      by Nowhere = refused-few _ _ z
+      by (Some w) = moved-few p w _
+      by None = refused-few _ _ z
 
   -- a newcomer is let in where there are fewer than four members
   admitted-few : (p : Partner) (joins : SetOutcome Sets) → (size z.six < most_members → Few joins) → Few (admitted_to z p joins)
   admitted-few p joins few = by (whereabouts p z.six)
     where
-      by : (w : Whereabouts) → Few (admits w (ltb (size z.six) most_members) joins z)
-      by (Within w) = refused-few _ _ z
-      by Nowhere = cond-case Few _ _ _ (λ lt. few (ltb-true _ _ lt)) (λ ge. refused-few _ _ z)
+      by : (w : Option SetName) → Few (admits w (ltb (size z.six) most_members) joins z)
+      by (Some w) = refused-few _ _ z
+      by None = cond-case Few _ _ _ (λ lt. few (ltb-true _ _ lt)) (λ ge. refused-few _ _ z)
 
   -- an order closes no more than were there, and has one action of its own
   joined-few : (p : Partner) (accepting : Bool) (cause : Cause) → size z.six < most_members → Few (set_joined z p accepting cause)

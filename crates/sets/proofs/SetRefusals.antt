@@ -1,5 +1,6 @@
 -- The refusals of the engine of sets are the box's: 10 and 11 exactly as said, all others by `same-refusal`; a refusal changes nothing.
 -- Proves: sets-kept, sets-ten, sets-eleven, sets-run-twelve, sets-run-eleven.
+use Rattle.std.specs.Prelude.{Option, Some, None}
 use mathlib.Core.Path.{◌≡◌, refl, ap, ◌∙◌}
 use mathlib.Core.Bool.{true, false, cond}
 use mathlib.Core.List.{List, []}
@@ -15,8 +16,8 @@ use Rattle.record.specs.Takes.{longest_log}
 use Rattle.record.specs.declared.partner.Partner.{Partner}
 use Rattle.record.specs.declared.event.Event.{Event}
 use Rattle.record.specs.declared.event.Event.TheVariants.{Level, Mission, Mode, Hole, Order, EndAll, Call, Named}
-use Rattle.record.specs.declared.event.Reading.{Reading}
-use Rattle.record.specs.declared.event.Reading.TheVariants.{Meant, Refused}
+use Rattle.record.specs.Readings.{Reading}
+use Rattle.record.specs.Readings.{Meant, Refused}
 use Rattle.unit.specs.Lasts.{meant}
 use Rattle.unit.specs.OnRecords.{action_room}
 use Rattle.unit.specs.Steps.{in_force, hole_taken}
@@ -28,11 +29,11 @@ use Rattle.sets.specs.SetSteps.{SetOutcome, set_refused_at, set_refused, set_don
 use Rattle.sets.specs.SetSteps.{set_joined}
 use Rattle.sets.specs.SetSteps.{set_ordered, set_received, set_called, set_step}
 use Rattle.sets.specs.OnSets.{set_reading, boxed, apply_sets, on_sets}
-use Rattle.sets.specs.SetRuns.{set_run_refused, set_run}
+use Rattle.runs.specs.MachineRuns.{machine_run}
+use Rattle.sets.specs.SetRuns.{set_run}
+use Rattle.sets.specs.SetGoings.{set_run_refused}
 use Rattle.sets.specs.declared.moves.Move.{Move}
 use Rattle.sets.specs.declared.names.SetName.{SetName}
-use Rattle.sets.specs.declared.names.Whereabouts.{Whereabouts}
-use Rattle.sets.specs.declared.names.Whereabouts.TheVariants.{Within, Nowhere}
 use Rattle.sets.specs.declared.state.SetState.{SetState}
 use Rattle.sets.proofs.Packing.{packed-ready}
 
@@ -50,12 +51,12 @@ module _ (z : Sets) where
   admitted-kept : (p : Partner) (joins : SetOutcome Sets) → KeptSets z joins → KeptSets z (admitted_to z p joins)
   admitted-kept p joins kept = by (whereabouts p z.six)
     where
-      by : (o : Whereabouts)
+      by : (o : Option SetName)
           → KeptSets z
           (on_whereabouts o (λ w. set_refused_at refusal.has_place (phase_in w) z)
           (cond (ltb (size z.six) most_members) joins (set_refused refusal.all_taken z)))
-      by (Within w) = refused-kept refusal.has_place (phase_in w) z
-      by Nowhere =
+      by (Some w) = refused-kept refusal.has_place (phase_in w) z
+      by None =
           cond-holds (KeptSets z) (ltb (size z.six) most_members) joins (set_refused refusal.all_taken z) kept
           (refused-kept refusal.all_taken 0 z)
 
@@ -83,12 +84,12 @@ module _ (z : Sets) where
       (refused-kept refusal.call_from_riu 0 z)
   step_kept (Named p e) = by (whereabouts p z.six)
     where
-      by : (o : Whereabouts)
+      by : (o : Option SetName)
           → KeptSets z
           (on_whereabouts o (λ w. set_moved z p w (move_of z.limits e w (member_for p (set_in w z.six))))
           (set_refused refusal.has_none z))
-      by (Within w) = moved-kept p w (move_of z.limits e w (member_for p (set_in w z.six)))
-      by Nowhere = refused-kept refusal.has_none 0 z
+      by (Some w) = moved-kept p w (move_of z.limits e w (member_for p (set_in w z.six)))
+      by None = refused-kept refusal.has_none 0 z
 
 -- "Each refusal has its number; it leaves the state .. as they were"
 -- promise
@@ -124,10 +125,10 @@ module _ (b : SetState) (bytes : List ℕ) (room : ℕ) where
 module _ (b : SetState) (log : List ℕ) (budget : ℕ) where
   -- promise
   pub sets-run-twelve : 1_048_576 < length log → set_run b log budget ≡ set_run_refused 12 b
-  unfolding set_run
+  unfolding machine_run
   sets-run-twelve long = simp (lt-leb (length log) longest_log long)
 
   -- promise
   pub sets-run-eleven : length log ≤ 1_048_576 → set_ready b ≡ false → set_run b log budget ≡ set_run_refused 11 b
-  unfolding set_run
+  unfolding machine_run
   sets-run-eleven short bad = simp (le-leb (length log) longest_log short, bad)

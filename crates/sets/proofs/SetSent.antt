@@ -3,11 +3,11 @@
 use mathlib.Core.Path.{◌≡◌, refl, sym, ap, subst, ◌∙◌}
 use mathlib.Core.List.{List}
 use Prim.Native.Nat.{ℕ, ◌+◌, ◌*◌, ◌≤◌, ◌<◌}
-use native.Mathlib.Numerals.{add-one}
 use native.Mathlib.Omega.{arith}
 use borrow.Author.Tests.{le-leb, lt-leb}
 use lib.ListN.{length, get_or, take}
-use lib.Seq.{sets, take-suc, length-take-le}
+use lib.Seq.{sets, length-take-le}
+use Rattle.std.proofs.lemmas.List.{take_more}
 use Rattle.wire.specs.Refusals.{no_room}
 use Rattle.unit.specs.Forms.{most_actions, no_action, listed}
 use Rattle.unit.specs.OnRecords.{action_room, action_size, bytes_of, written}
@@ -30,7 +30,7 @@ written_next items i before after buffer some under room so_far put =
     let one = get_or items i no_action in
     let long = length-take-le i items (omega arith) in
     appended_one before after i one under room put (take i items) buffer (sym long) so_far
-    ∙ ap (λ l. written l buffer) (sym (take-suc items i no_action some) ∙ ap (λ n. take n items) (sym (add-one i)))
+    ∙ ap (λ l. written l buffer) (sym (take_more items i no_action some))
 
 module _ (b : SetState) (bytes : List ℕ) (answer : SetAnswer) (made : answer ≡ set_listed (apply_sets b bytes)) where
   -- the answer to a record counts few enough actions

@@ -9,7 +9,7 @@ use Rattle.record.specs.Records.{reading}
 use Rattle.unit.specs.Lasts.{recalled}
 use Rattle.history.specs.Histories.{timeouts}
 use Rattle.history.specs.Reaching.{rbc5, order5, timeout5}
-use Rattle.sets.specs.Members.{has_member, member_for, without, those, all_of, apart, members_of, set_of, tidy}
+use Rattle.sets.specs.Members.{member_for, without, apart, members_of, set_of, tidy}
 use Rattle.sets.specs.SixSets.{size, everyone, whereabouts, member_ok, members_ok, sound_sets, unpacked, packed_sets, tidy_six}
 use Rattle.sets.specs.SixSets.{set_ready, set_cold, set_start}
 use Rattle.sets.specs.Moves.{move_of}
@@ -36,8 +36,8 @@ pub shown-session : set_answers set_first one_session
     ∷ []
 unfolding set_answers set_told on_sets apply_sets set_step set_ordered set_joined set_named set_moved moved move_of set_called
     set_received set_closed
-    closed_six closing_sent whereabouts has_member member_for without those set_ready tidy_six tidy sound_sets members_ok
-    member_ok all_of apart
+    closed_six closing_sent whereabouts member_for without set_ready tidy_six tidy sound_sets members_ok
+    member_ok apart
     everyone size unpacked packed_sets members_of set_of set_start set_cold reading recalled blocks
 shown-session = refl
 
@@ -57,8 +57,8 @@ pub shown-displaced :
     ∷ []
 unfolding set_after set_answers set_told on_sets apply_sets set_step set_ordered set_joined set_named set_moved moved move_of
     set_called set_received
-    set_closed closed_six closing_sent whereabouts has_member member_for without those set_ready tidy_six tidy sound_sets members_ok
-    member_ok all_of
+    set_closed closed_six closing_sent whereabouts member_for without set_ready tidy_six tidy sound_sets members_ok
+    member_ok
     apart everyone size unpacked packed_sets members_of set_of set_start set_cold reading recalled blocks
 shown-displaced = refl
 
@@ -68,7 +68,7 @@ shown-displaced = refl
 -- meaning
 pub shown-unsound : map set_ready unsound_states
     ≡ true ∷ false ∷ false ∷ false ∷ false ∷ false ∷ false ∷ false ∷ false ∷ false ∷ false ∷ []
-unfolding set_ready tidy_six tidy sound_sets members_ok member_ok all_of apart everyone has_member size unpacked packed_sets
+unfolding set_ready tidy_six tidy sound_sets members_ok member_ok apart everyone size unpacked packed_sets
     members_of set_of
 shown-unsound = refl
 
@@ -79,9 +79,9 @@ pub shown-waiting :
     × (set_releases_of rbc5 (set_after set_first (order5 ∷ [])) (timeout5 ∷ timeout5 ∷ timeout5 ∷ []) ≡ 1)
 unfolding set_waits set_silent timeouts set_after on_sets apply_sets set_step set_ordered set_joined set_named set_moved moved
     move_of set_called
-    set_received set_closed closed_six closing_sent whereabouts has_member member_for without those set_ready tidy_six tidy
+    set_received set_closed closed_six closing_sent whereabouts member_for without set_ready tidy_six tidy
     sound_sets members_ok
-    member_ok all_of apart everyone size unpacked packed_sets members_of set_of set_start set_cold reading recalled
+    member_ok apart everyone size unpacked packed_sets members_of set_of set_start set_cold reading recalled
 shown-waiting =
     let b = set_after set_first (order5 ∷ []) in
     let good = history-ready set_first (order5 ∷ []) (cold-ready set_limits) in

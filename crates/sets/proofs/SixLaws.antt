@@ -1,8 +1,8 @@
 -- The six sets together: how many members there are, counted and listed; a closing adds no member and sends none two actions; sets joined;
 -- what soundness and the cold start say of the six.
--- Defines: counts, CountEach, theirs, ours, ended, Joins, last_two, last_three, last_four, last_five, UnionFew, GoingFew, with_sets.
--- Proves: count-each, counts-few, counts-size, closed-size, sent-size, set-lists, set-count, joins, onto, union-few, sound-by,
--- going-few, ready-parts, start-sets.
+-- Defines: counts, CountEach, theirs, ours, ended, Joins, GoingFew, with_sets.
+-- Proves: count-each, counts-few, counts-size (both `counted`), closed-size, sent-size, set-lists, set-count, joins, onto, everyone-size,
+-- sound-by, going-few, ended-joins, ended-tidy, ended-onto, ready-parts, start-sets.
 use mathlib.Core.Path.{◌≡◌, refl, sym, ap, ap₂, ◌∙◌}
 use mathlib.Core.Bool.{Bool, true, false, cond, ◌&&◌, not}
 use mathlib.Core.List.{List, [], ◌∷◌, ◌++◌, map}
@@ -84,10 +84,12 @@ counts-size x ok =
       tidy-length x.terminating each.terminating,
     )
 
+-- what the sum of the counts needs
+pub ruleset counted = (counts-few, counts-size)
+
 -- those that pass a test and those that do not are all
 those-parts : (test : Member → Bool) (ms : List Member)
     → length (those test ms) + length (those (λ m. not (test m)) ms) ≡ length ms
-unfolding those
 those-parts test [] = refl
 those-parts test (m ∷ ms) = by (test m) (those (λ m. not (test m)) ms) (those-parts test ms)
   where
@@ -188,45 +190,21 @@ pub onto : (s r : Members) (ms : List Member)
     → Joins s r (members_of s) ms
 onto s r ms ok is few = joins s r (members_of s) ms (sym (set-members s ok)) is few
 
--- the union of the last two sets, of the last three, and so on
-abbrev pub last_two : Six → List Member
-last_two x = x.lost ++ x.terminating
-
-abbrev pub last_three : Six → List Member
-last_three x = x.outgoing ++ last_two x
-
-abbrev pub last_four : Six → List Member
-last_four x = x.incoming ++ last_three x
-
-abbrev pub last_five : Six → List Member
-last_five x = x.contacted ++ last_four x
-
--- of no more than four members in all, those of the last sets are no more either
-pub record UnionFew (x : Six) : Type 0 where
-  pub lost : length x.lost + length x.terminating ≤ most_members
-  pub outgoing : length x.outgoing + length (last_two x) ≤ most_members
-  pub incoming : length x.incoming + length (last_three x) ≤ most_members
-  pub contacted : length x.contacted + length (last_four x) ≤ most_members
-  pub calling : length x.calling + length (last_five x) ≤ most_members
-  pub all : length (everyone x) ≤ most_members
-
--- by counting them
-pub union-few : (x : Six) → size x ≤ most_members → UnionFew x
+-- the union of the six has as many members as they have in all
+pub everyone-size : (x : Six) → length (everyone x) ≡ size x
 unfolding size everyone
-union-few x few =
-    let h₄ = length-append x.lost x.terminating in
-    let h₃ = length-append x.outgoing (last_two x) in
-    let h₂ = length-append x.incoming (last_three x) in
-    let h₁ = length-append x.contacted (last_four x) in
-    let h₀ = length-append x.calling (last_five x) in
-    record {
-      lost = omega arith;
-      outgoing = omega arith;
-      incoming = omega arith;
-      contacted = omega arith;
-      calling = omega arith;
-      all = omega arith;
-    }
+everyone-size x =
+    let fifth = x.lost ++ x.terminating in
+    let fourth = x.outgoing ++ fifth in
+    let third = x.incoming ++ fourth in
+    omega (
+      arith,
+      length-append x.calling (x.contacted ++ third),
+      length-append x.contacted third,
+      length-append x.incoming fourth,
+      length-append x.outgoing fifth,
+      length-append x.lost x.terminating,
+    )
 
 -- soundness of the six by the outcomes of the first three tests
 pub sound-by : (l : Limits) (x : SixSets) (a b c : Bool)
@@ -250,6 +228,41 @@ going-few which x few =
     let h₂ = those-few (shuts which OutgoingSessions) x.outgoing in
     let h₃ = length-append (theirs which x) (ours which x) in
     record { both = omega arith; ending = omega arith }
+
+-- the sessions that end in a closing, as the code makes their union and puts it behind those that terminate
+module _ (which : Closing) (x : SixSets) (ok : tidy_six x ≡ true) (few : size (unpacked_six x) ≤ most_members)
+    (called own : Members)
+    (called_is : called ≡ set_of (theirs which (unpacked_six x)))
+    (own_is : own ≡ set_of (ours which (unpacked_six x))) where
+  -- the union of both directions can be made
+  pub ended-joins : Joins called own (theirs which (unpacked_six x)) (ours which (unpacked_six x))
+  ended-joins =
+      joins called own (theirs which (unpacked_six x)) (ours which (unpacked_six x)) called_is own_is
+      (going-few which (unpacked_six x) few).both
+
+  module _ (union : Members) (made : union ≡ set_of (members_of called ++ members_of own)) where
+    abbrev all_ended : List Member
+    all_ended = ended which (unpacked_six x)
+
+    ended-few : length (unpacked_six x).terminating + length all_ended ≤ most_members
+    ended-few = (going-few which (unpacked_six x) few).ending
+
+    union-is : union ≡ set_of all_ended
+    union-is = ended-joins.1 union made
+
+    -- it is in its form
+    pub ended-tidy : tidy union ≡ true
+    ended-tidy = ap tidy union-is ∙ set-tidy all_ended (omega (arith, ended-few))
+
+    -- and with its first tries it can be put behind those that terminate
+    pub ended-onto : (afresh : Members)
+        → afresh ≡ set_of (map (tried first_try) (members_of union))
+        → Joins x.terminating afresh (unpacked_six x).terminating (map (tried first_try) all_ended)
+    ended-onto afresh is =
+        onto x.terminating afresh (map (tried first_try) all_ended) (six-tidy x ok).terminating
+        (is
+        ∙ ap (λ ms. set_of (map (tried first_try) ms)) (set-lists union all_ended union-is (omega (arith, ended-few))))
+        (omega (arith, ended-few, length-map all_ended (tried first_try)))
 
 -- the sets may be tested after the rest of the state
 pub ready-parts : (b : SetState)

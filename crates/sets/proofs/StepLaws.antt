@@ -1,9 +1,10 @@
 -- What each kind of step of the engine of sets is by what the code's tests and searches showed; the sets as the code holds them against
 -- their lists.
 -- Defines: rest_of, answering, admits, carries, names.
--- Proves: held-tidy, member-held, held-count, enter-is, packed-room, packed-enter, rest-is, rest-room, moved-is, ready-few,
+-- Proves: member-held, held-count, enter-is, packed-room, packed-enter, rest-is, rest-room, moved-is, ready-few,
 -- refused-held, noted-held, closed-held, recalled-held, joined-held, level-is, mission-is, mode-is, hole-is, end_is, admitted-is,
 -- ordered-is, order_is, received_is, called_is, taken_is, named-is.
+use Rattle.std.specs.Prelude.{Option}
 use mathlib.Core.Path.{◌≡◌, refl, sym, ap, ap₂, ◌∙◌}
 use mathlib.Core.Bool.{Bool, true, cond, ◌||◌}
 use mathlib.Core.List.{List, [], ◌∷◌, ◌++◌, map}
@@ -28,7 +29,7 @@ use Rattle.unit.specs.declared.answer.Action.{Action}
 use Rattle.unit.specs.declared.last.Last.{Last}
 use Rattle.unit.specs.declared.state.Marks.{Marks}
 use Rattle.unit.specs.declared.state.Train.{Train}
-use Rattle.sets.specs.Members.{most_members, session_tries, has_member, member_for, without, joining, members_of, set_of, tidy}
+use Rattle.sets.specs.Members.{most_members, session_tries, has_member, member_for, without, joining, members_of, set_of}
 use Rattle.sets.specs.SixSets.{Six, Sets, set_in, with_set, size, whereabouts, on_whereabouts, phase_in, unpacked_six, unpacked}
 use Rattle.sets.specs.SixSets.{packed_six, packed_sets, tidy_six, set_ready}
 use Rattle.sets.specs.Moves.{move_of, on_move, moves, sent_in}
@@ -44,31 +45,13 @@ use Rattle.sets.specs.declared.moves.Move.{Move}
 use Rattle.sets.specs.declared.names.SetName.{SetName}
 use Rattle.sets.specs.declared.names.SetName.TheVariants.{Calling, Contacted, IncomingSessions, OutgoingSessions, LostSessions}
 use Rattle.sets.specs.declared.names.SetName.TheVariants.{TerminatingSessions}
-use Rattle.sets.specs.declared.names.Whereabouts.{Whereabouts}
 use Rattle.sets.specs.declared.six.SixSets.{SixSets}
 use Rattle.sets.specs.declared.state.SetState.{SetState}
 use Rattle.sets.proofs.Counting.{count_in-all, count_in-without, many-set, many-in, many-size}
-use Rattle.sets.proofs.Packing.{tidy-length, six-tidy, packed-six, unpacked-six, packed-tidy, ready-tidy, ready-size, packed-ready}
+use Rattle.sets.proofs.SixByName.{held-tidy, held-members}
+use Rattle.sets.proofs.Packing.{tidy-length, packed-six, unpacked-six, packed-tidy, ready-tidy, ready-size, packed-ready}
 
--- each held set is tidy
-pub held-tidy : (w : SetName) (x : SixSets) → tidy_six x ≡ true → tidy (held_set w x) ≡ true
-held-tidy Calling x ok = (six-tidy x ok).calling
-held-tidy Contacted x ok = (six-tidy x ok).contacted
-held-tidy IncomingSessions x ok = (six-tidy x ok).incoming
-held-tidy OutgoingSessions x ok = (six-tidy x ok).outgoing
-held-tidy LostSessions x ok = (six-tidy x ok).lost
-held-tidy TerminatingSessions x ok = (six-tidy x ok).terminating
-
--- the members of a held set are those of the list
-held-members : (w : SetName) (x : SixSets) → members_of (held_set w x) ≡ set_in w (unpacked_six x)
-held-members Calling x = refl
-held-members Contacted x = refl
-held-members IncomingSessions x = refl
-held-members OutgoingSessions x = refl
-held-members LostSessions x = refl
-held-members TerminatingSessions x = refl
-
--- and so the one that is a partner is the same
+-- the member that is a partner is the same as the code holds it
 pub member-held : (w : SetName) (x : SixSets) (p : Partner) (from : Members)
     → from ≡ held_set w x
     → member_for p (members_of from) ≡ member_for p (set_in w (unpacked_six x))
@@ -169,7 +152,7 @@ abbrev pub answering : SetOutcome Sets → SetAnswer
 answering o = set_listed (boxed o)
 
 -- what is said of a newcomer, by where it stands and whether there is room
-abbrev pub admits : Whereabouts → Bool → SetOutcome Sets → Sets → SetOutcome Sets
+abbrev pub admits : Option SetName → Bool → SetOutcome Sets → Sets → SetOutcome Sets
 admits found t joins z =
     on_whereabouts found (λ w. set_refused_at refusal.has_place (phase_in w) z) (cond t joins (set_refused refusal.all_taken z))
 
@@ -180,7 +163,7 @@ carries t p w mv b =
     (set_refused_at refusal.not_taken (phase_in w) (unpacked b))
 
 -- what an event that names a partner makes, by where the partner stands
-abbrev pub names : Whereabouts → Partner → PartnerEvent → SetState → SetOutcome Sets
+abbrev pub names : Option SetName → Partner → PartnerEvent → SetState → SetOutcome Sets
 names found p e b =
     on_whereabouts found
     (λ w. set_moved (unpacked b) p w (move_of b.limits e w (member_for p (set_in w (unpacked_six b.sets)))))
@@ -291,7 +274,7 @@ module _ (b : SetState) where
   end_is = refl
 
   -- a newcomer is admitted by where it stands, and by the room
-  pub admitted-is : (p : Partner) (found : Whereabouts) (k : ℕ) (t : Bool) (joins : SetOutcome Sets)
+  pub admitted-is : (p : Partner) (found : Option SetName) (k : ℕ) (t : Bool) (joins : SetOutcome Sets)
       → whereabouts p six ≡ found
       → k ≡ size six
       → ltb k most_members ≡ t
@@ -346,7 +329,7 @@ module _ (b : SetState) where
   taken_is p w mv t test = ap (λ u. carries u p w mv b) (sym test)
 
   -- an event that names a partner, by where it stands
-  pub named-is : (p : Partner) (e : PartnerEvent) (found : Whereabouts)
+  pub named-is : (p : Partner) (e : PartnerEvent) (found : Option SetName)
       → whereabouts p six ≡ found
       → names found p e b ≡ set_named (unpacked b) p e
   unfolding set_named unpacked

@@ -9,3 +9,4 @@ pub mod SetHistories
 pub mod SetExamples
 pub mod Holding
 pub mod SameWords
+pub mod SetGoings

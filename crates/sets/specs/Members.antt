@@ -1,8 +1,9 @@
 -- Request Q-7: one set of partners "with tries beside the members", as the list of its members.
 -- Defines: most_members, session_tries, no_member, is_for, has_member, member_for, without, joining, those, all_of, apart, is_no_member,
 -- members_of, set_of, tidy.
-use Rattle.std.specs.Prelude.{ℕ, Bool, true, false, cond, ◌&&◌, ◌||◌, not, List, [], ◌∷◌, ◌++◌, eqb, leb, length, take}
-use Rattle.std.specs.Prelude.{drop, replicate}
+use Rattle.std.specs.Prelude.{ℕ, Bool, true, cond, ◌&&◌, not, List, [], ◌∷◌, ◌++◌, eqb, leb, length, take}
+use Rattle.std.specs.Prelude.{drop, replicate, filter}
+use Rattle.std.specs.List.{list_any, list_all}
 use Rattle.record.specs.Partners.{same_partner}
 use Rattle.record.specs.declared.partner.Partner.{Partner}
 use Rattle.place.specs.Places.{direction_number}
@@ -27,9 +28,8 @@ abbrev pub is_for : Partner → Member → Bool
 is_for p m = same_partner p m.partner
 
 -- p ∈ S
-unfoldable pub has_member : Partner → List Member → Bool
-has_member p [] = false
-has_member p (m ∷ ms) = is_for p m || has_member p ms
+abbrev pub has_member : Partner → List Member → Bool
+has_member p ms = list_any (is_for p) ms
 
 -- the member that is this partner, where there is one
 unfoldable pub member_for : Partner → List Member → Member
@@ -46,14 +46,12 @@ abbrev pub joining : List Member → Member → List Member
 joining ms m = ms ++ (m ∷ [])
 
 -- S ∩ T, T being those that pass a test
-unfoldable pub those : (Member → Bool) → List Member → List Member
-those test [] = []
-those test (m ∷ ms) = cond (test m) (m ∷ those test ms) (those test ms)
+abbrev pub those : (Member → Bool) → List Member → List Member
+those test ms = filter test ms
 
 -- every member passes a test
-unfoldable pub all_of : (Member → Bool) → List Member → Bool
-all_of test [] = true
-all_of test (m ∷ ms) = test m && all_of test ms
+abbrev pub all_of : (Member → Bool) → List Member → Bool
+all_of test ms = list_all test ms
 
 -- no partner stands twice
 unfoldable pub apart : List Member → Bool

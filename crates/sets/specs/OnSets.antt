@@ -3,8 +3,8 @@
 use Rattle.std.specs.Prelude.{ℕ, cond, List, leb, length}
 use Rattle.wire.specs.Refusals.{no_room, not_sound}
 use Rattle.record.specs.Records.{reading}
-use Rattle.record.specs.declared.event.Reading.{Reading}
-use Rattle.record.specs.declared.event.Reading.TheVariants.{Meant, Refused}
+use Rattle.record.specs.Readings.{Reading}
+use Rattle.record.specs.Readings.{Meant, Refused}
 use Rattle.unit.specs.Forms.{listed}
 use Rattle.unit.specs.OnRecords.{action_room, written}
 use Rattle.sets.specs.SixSets.{Sets, unpacked, packed_sets, set_ready}

@@ -3,6 +3,7 @@
 -- Defines: Six, Sets, set_in, with_set, size, everyone, whereabouts, on_whereabouts, phase_in, tries_in, fits_in, may_be, member_ok,
 -- members_ok, sound_sets, unpacked_six, six_in, unpacked, packed_six, packed_sets, tidy_six, set_ready, no_sets, cold_sets, set_cold,
 -- set_start.
+use Rattle.std.specs.Prelude.{Option, Some, None}
 use Rattle.std.specs.Prelude.{ℕ, ◌+◌, Bool, true, false, cond, ◌&&◌, List, [], ◌++◌, eqb, leb, length}
 use Rattle.wire.specs.Refusals.{accepted, bad_limits}
 use Rattle.record.specs.Partners.{is_rbc, named_ok}
@@ -23,8 +24,6 @@ use Rattle.sets.specs.declared.members.Member.{Member}
 use Rattle.sets.specs.declared.names.SetName.{SetName}
 use Rattle.sets.specs.declared.names.SetName.TheVariants.{Calling, Contacted, IncomingSessions, OutgoingSessions, LostSessions}
 use Rattle.sets.specs.declared.names.SetName.TheVariants.{TerminatingSessions}
-use Rattle.sets.specs.declared.names.Whereabouts.{Whereabouts}
-use Rattle.sets.specs.declared.names.Whereabouts.TheVariants.{Within, Nowhere}
 use Rattle.sets.specs.declared.six.SixSets.{SixSets}
 use Rattle.sets.specs.declared.state.SetState.{SetState}
 use Rattle.sets.specs.declared.start.SetStarted.{SetStarted}
@@ -124,18 +123,18 @@ unfoldable pub everyone : Six → List Member
 everyone x = x.calling ++ (x.contacted ++ (x.incoming ++ (x.outgoing ++ (x.lost ++ x.terminating))))
 
 -- the set that a partner stands in, by six tests
-unfoldable pub whereabouts : Partner → Six → Whereabouts
+unfoldable pub whereabouts : Partner → Six → Option SetName
 whereabouts p x =
-    cond (has_member p x.calling) (Within Calling)
-    (cond (has_member p x.contacted) (Within Contacted)
-    (cond (has_member p x.incoming) (Within IncomingSessions)
-    (cond (has_member p x.outgoing) (Within OutgoingSessions)
-    (cond (has_member p x.lost) (Within LostSessions) (cond (has_member p x.terminating) (Within TerminatingSessions) Nowhere)))))
+    cond (has_member p x.calling) (Some Calling)
+    (cond (has_member p x.contacted) (Some Contacted)
+    (cond (has_member p x.incoming) (Some IncomingSessions)
+    (cond (has_member p x.outgoing) (Some OutgoingSessions)
+    (cond (has_member p x.lost) (Some LostSessions) (cond (has_member p x.terminating) (Some TerminatingSessions) None)))))
 
 -- what is said where a partner stands in a set, and where it stands in none
-abbrev pub on_whereabouts : {A : Type 0} → Whereabouts → (SetName → A) → A → A
-on_whereabouts (Within w) there none = there w
-on_whereabouts Nowhere there none = none
+abbrev pub on_whereabouts : {A : Type 0} → Option SetName → (SetName → A) → A → A
+on_whereabouts (Some w) there none = there w
+on_whereabouts None there none = none
 
 -- "Calling is Connecting, contacted Contacting, incoming and outgoing Open by direction, lost Lost, terminating Ending": 01's numbers
 abbrev pub phase_in : SetName → ℕ

@@ -3,7 +3,8 @@ ghost use Rattle.std.specs.Prelude.{◌≡◌, List, [], ◌∷◌, ◌++◌, �
 ghost use Rattle.unit.specs.Forms.{most_actions, listed};
 ghost use Rattle.unit.specs.Steps.{act};
 ghost use Rattle.unit.specs.declared.answer.Action.{Action};
-ghost use Rattle.sets.specs.Members.{most_members, members_of};
+ghost use Rattle.wire.specs.Refusals.{number};
+ghost use Rattle.sets.specs.Members.{members_of};
 ghost use Rattle.sets.specs.SetSteps.{set_refused_at, set_done, sent_all};
 ghost use Rattle.sets.specs.OnSets.{set_listed};
 ghost use Rattle.sets.specs.Holding.{sent_so_far, neat};
@@ -12,7 +13,7 @@ use crate::members::Members;
 use crate::state::SetState;
 use record::partner::Partner;
 use unit::answer::{Action, Actions};
-use wire::refusal::ACCEPTED;
+use wire::refusal::{ACCEPTED, Refusal};
 
 // What a step answers: 0 or the number of the refusal, the next state, the actions, and the number of the partner's phase if that is said.
 #[derive(Clone, Copy)]
@@ -64,27 +65,24 @@ pub(crate) fn send(actions: Actions, partner: Partner, number: u8) -> Actions
 
 // An action of this number for each member of a set, after the others.
 pub(crate) fn send_all(actions: Actions, members: Members, number: u8) -> Actions
-    requires { (neat actions) × (members.count ≤ most_members) × (actions.count + members.count ≤ most_actions) }
+    requires { (neat actions) × (actions.count + members.count ≤ most_actions) }
     ensures { result ≡ listed (sent_so_far actions ++ sent_all number (members_of members)) }
 {
-    let count = members.count;
     let mut sent = actions;
-    let mut i = 0;
-    while i < count {
-        let member = members.items[i];
+    for member in members.held() {
         sent = send(sent, member.partner, number);
-        i += 1;
     }
     sent
 }
 
 impl SetAnswer {
     // A refusal: the state as given, no action.
-    pub(crate) fn refused(code: u8, phase: u8, state: SetState) -> SetAnswer
-        ensures { result ≡ set_listed (set_refused_at code phase state) }
+    #[tactic(auto, unfolding(crate::specs::OnSets::set_listed))]
+    pub(crate) fn refused(refusal: Refusal, phase: u8, state: SetState) -> SetAnswer
+        ensures { result ≡ set_listed (set_refused_at (number refusal) phase state) }
     {
         SetAnswer {
-            code,
+            code: refusal.number(),
             state,
             actions: no_actions(),
             phase,
@@ -92,6 +90,7 @@ impl SetAnswer {
     }
 
     // An accepted step.
+    #[tactic(auto, unfolding(crate::specs::OnSets::set_listed))]
     pub(crate) fn done(state: SetState, actions: Actions) -> SetAnswer
         ensures { (acts : List Action) → actions ≡ listed acts → result ≡ set_listed (set_done state acts) }
     {

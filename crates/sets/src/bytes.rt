@@ -7,11 +7,11 @@ ghost use Rattle.sets.specs.OnSets.{apply_sets, on_sets, set_listed, set_buffer,
 
 use crate::answer::{SetAnswer, SetStepped};
 use crate::state::SetState;
-use record::event::Reading;
+use crate::step::ReadyState;
 use record::read::read;
 use unit::answer::{Action, Actions};
 use unit::bytes::{ACTION_ROOM, ACTION_SIZE};
-use wire::refusal::{NO_ROOM, NOT_SOUND};
+use wire::refusal::Refusal;
 
 // Writes an action's five bytes.
 fn put(s: &mut [u8], at: usize, action: Action)
@@ -31,11 +31,8 @@ fn write(s: &mut [u8], actions: Actions)
     requires { (actions.count ≤ most_actions) × (action_room ≤ length s.old) }
     ensures { s.new ≡ written (take actions.count actions.items) s.old }
 {
-    let count = actions.count;
-    let mut i = 0;
-    while i < count {
-        put(s, ACTION_SIZE * i, actions.items[i]);
-        i += 1;
+    for (i, action) in actions.items[..actions.count].iter().enumerate() {
+        put(s, ACTION_SIZE * i, *action);
     }
 }
 
@@ -46,11 +43,11 @@ impl SetState {
     {
         if self.is_sound() {
             match read(bytes) {
-                Reading::Meant(event) => self.step(event),
-                Reading::Refused(code) => SetAnswer::refused(code, 0, self),
+                Ok(event) => ReadyState { state: self }.step(event),
+                Err(refusal) => SetAnswer::refused(refusal, 0, self),
             }
         } else {
-            SetAnswer::refused(NOT_SOUND, 0, self)
+            SetAnswer::refused(Refusal::NotSound, 0, self)
         }
     }
 
@@ -62,20 +59,18 @@ impl SetState {
     {
         if actions.len() < ACTION_ROOM {
             return SetStepped {
-                code: NO_ROOM,
+                code: Refusal::NoRoom.number(),
                 state: self,
                 count: 0,
                 phase: 0,
             };
         }
         let answer = self.apply(bytes);
-        let sent = answer.actions;
-        let state = answer.state;
-        write(actions, sent);
+        write(actions, answer.actions);
         SetStepped {
             code: answer.code,
-            state,
-            count: sent.count,
+            state: answer.state,
+            count: answer.actions.count,
             phase: answer.phase,
         }
     }

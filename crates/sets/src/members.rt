@@ -1,18 +1,15 @@
 // One set: its members, and the set operations of the model: membership, union, difference.
-ghost use Rattle.std.specs.Prelude.{◌≡◌, true, [], ◌++◌, map, ◌+◌, ◌<◌, ◌≤◌, drop};
-ghost use Rattle.sets.specs.Members.{most_members, no_member, is_for, has_member, member_for, without, joining, all_of, apart};
+ghost use Rattle.std.specs.Prelude.{◌≡◌, Bool, true, [], ◌++◌, map, position, ◌+◌, ◌<◌, ◌≤◌};
+ghost use Rattle.sets.specs.Members.{most_members, no_member, is_for, has_member, member_for, without, joining, all_of, apart, those};
+ghost use Rattle.sets.specs.declared.members.Member.{Member};
 ghost use Rattle.sets.specs.Members.{is_no_member, members_of, set_of, tidy};
 ghost use Rattle.sets.specs.SixSets.{may_be, member_ok};
-ghost use Rattle.place.specs.Table.{first_try};
 ghost use Rattle.sets.specs.SetSteps.{tried};
-ghost use Rattle.sets.specs.Holding.{first_for};
 
 use crate::names::SetName;
 use place::limits::Limits;
-use place::phase::FIRST_TRY;
 use place::place::Direction;
 use record::partner::Partner;
-use wire::join::and;
 
 // At most four members in all.
 pub const MOST_MEMBERS: usize = 4;
@@ -70,45 +67,44 @@ impl Member {
     fn is_none(self) -> bool
         ensures { result ≡ is_no_member self }
     {
-        let none = Member::none();
-        let direction = self.direction;
-        and(
-            self.is_for(none.partner),
-            and(self.tries == 0, direction.number() == 0),
-        )
+        self.is_for(Member::none().partner) & ((self.tries == 0) & (self.direction.number() == 0))
     }
 
     // The same member with other tries.
     pub(crate) fn tried(self, tries: u8) -> Member
         ensures { result ≡ tried tries self }
     {
-        let partner = self.partner;
-        let direction = self.direction;
-        Member {
-            partner,
-            tries,
-            direction,
-        }
+        Member { tries, ..self }
     }
 
     // Whether it is sound by itself in the set of this name.
+    #[tactic(auto, unfolding(crate::specs::SixSets::member_ok))]
     fn is_sound(self, name: SetName, limits: Limits) -> bool
         ensures { result ≡ member_ok limits name self }
     {
-        let partner = self.partner;
-        let direction = self.direction;
-        and(
-            partner.can_be_named(),
-            and(
-                name.allows_tries(self.tries, limits),
-                and(name.allows(direction), may_be(direction, partner)),
-            ),
-        )
+        self.partner.can_be_named()
+            & (name.allows_tries(self.tries, limits)
+                & (name.allows(self.direction) & may_be(self.direction, self.partner)))
     }
+}
+
+// Whether nothing but zeros stands in any of these.
+fn are_none(members: &[Member]) -> bool
+    ensures { result ≡ all_of is_no_member members.now }
+{
+    members.iter().all(|member| member.is_none())
+}
+
+// Whether the partner is one of these members.
+fn is_among(members: &[Member], partner: Partner) -> bool
+    ensures { result ≡ has_member partner members.now }
+{
+    members.iter().any(|member| member.is_for(partner))
 }
 
 impl Members {
     // The empty set.
+    #[tactic(auto, unfolding(crate::specs::Members::set_of))]
     pub(crate) fn none() -> Members
         ensures { result ≡ set_of [] }
     {
@@ -118,104 +114,67 @@ impl Members {
         }
     }
 
+    // The members alone, without the zeros after them.
+    pub(crate) fn held(&self) -> &[Member]
+        ensures { result.now ≡ members_of self.now }
+    {
+        &self.items[..self.count.min(MOST_MEMBERS)]
+    }
+
     // Whether it has four members at most, and zeros after them.
     pub(crate) fn is_tidy(self) -> bool
         ensures { result ≡ tidy self }
     {
-        let mut i = self.count;
-        if i > MOST_MEMBERS {
+        if self.count > MOST_MEMBERS {
             return false;
         }
-        loop {
-            if i >= MOST_MEMBERS {
-                break true;
-            }
-            let member = self.items[i];
-            if member.is_none() {
-                i += 1;
-            } else {
-                break false;
-            }
-        }
+        are_none(&self.items[self.count..])
     }
 
     // Whether each member is sound by itself in the set of this name.
     pub(crate) fn are_sound(self, name: SetName, limits: Limits) -> bool
-        requires { self.count ≤ most_members }
         ensures { result ≡ all_of (member_ok limits name) (members_of self) }
     {
-        let count = self.count;
-        let mut i = 0;
-        loop {
-            if i >= count {
-                break true;
-            }
-            let member = self.items[i];
-            if member.is_sound(name, limits) {
-                i += 1;
-            } else {
-                break false;
-            }
-        }
+        self.held()
+            .iter()
+            .all(|member| member.is_sound(name, limits))
     }
 
-    // The number of the first member from this one on that is the partner; the count where none is.
-    fn position(self, partner: Partner, from: usize) -> usize
-        requires { (self.count ≤ most_members) × (from ≤ self.count) }
-        ensures { result ≡ from + first_for partner (drop from (members_of self)) }
+    // The number of the first member that is the partner.
+    fn position(self, partner: Partner) -> Option<usize>
+        ensures { result ≡ position (is_for partner) (members_of self) }
     {
-        let count = self.count;
-        let mut i = from;
-        loop {
-            if i >= count {
-                break count;
-            }
-            let member = self.items[i];
-            if member.is_for(partner) {
-                break i;
-            }
-            i += 1;
-        }
+        self.held().iter().position(|member| member.is_for(partner))
     }
 
     // Whether the partner is a member.
     pub(crate) fn has(self, partner: Partner) -> bool
-        requires { self.count ≤ most_members }
         ensures { result ≡ has_member partner (members_of self) }
     {
-        self.position(partner, 0) < self.count
+        is_among(self.held(), partner)
     }
 
     // The member that is the partner; zeros where none is.
     pub(crate) fn member(self, partner: Partner) -> Member
-        requires { self.count ≤ most_members }
         ensures { result ≡ member_for partner (members_of self) }
     {
-        let at = self.position(partner, 0);
-        if at < self.count {
-            self.items[at]
-        } else {
-            Member::none()
+        match self.position(partner) {
+            Some(at) => self.items[at],
+            None => Member::none(),
         }
     }
 
     // Whether no partner is a member twice.
     pub(crate) fn are_apart(self) -> bool
-        requires { self.count ≤ most_members }
         ensures { result ≡ apart (members_of self) }
     {
-        let count = self.count;
-        let mut i = 0;
-        loop {
-            if i >= count {
-                break true;
+        let members = self.held();
+        for (i, member) in members.iter().enumerate() {
+            if is_among(&members[i + 1..], member.partner) {
+                return false;
             }
-            let member = self.items[i];
-            if self.position(member.partner, i + 1) < count {
-                break false;
-            }
-            i += 1;
         }
+        true
     }
 
     // The set with one member more, after the others.
@@ -237,34 +196,32 @@ impl Members {
         requires { tidy self ≡ true }
         ensures { result ≡ set_of (without partner (members_of self)) }
     {
-        let at = self.position(partner, 0);
-        if at >= self.count {
+        let Some(at) = self.position(partner) else {
             return self;
+        };
+        let mut items = self.items;
+        items.copy_within(at + 1.., at);
+        items[MOST_MEMBERS - 1] = Member::none();
+        Members {
+            items,
+            count: self.count - 1,
         }
-        let count = self.count - 1;
-        let first = self.items[0];
-        let second = self.items[1];
-        let third = self.items[2];
-        let fourth = self.items[3];
-        let none = Member::none();
-        match at {
-            0 => Members {
-                items: [second, third, fourth, none],
-                count,
-            },
-            1 => Members {
-                items: [first, third, fourth, none],
-                count,
-            },
-            2 => Members {
-                items: [first, second, fourth, none],
-                count,
-            },
-            _ => Members {
-                items: [first, second, third, none],
-                count,
-            },
+    }
+
+    // The members that pass a test.
+    pub(crate) fn those<F: Fn(Member) -> bool>(self, test: F) -> Members
+        requires { F.IsAlwaysCallable test }
+        ensures { (passes : Member → Bool)
+            → ((m : Member) (b : Bool) → F.post test m b → b ≡ passes m)
+            → result ≡ set_of (those passes (members_of self)) }
+    {
+        let mut kept = Members::none();
+        for member in self.held() {
+            if test(*member) {
+                kept = kept.with(*member);
+            }
         }
+        kept
     }
 
     // The union with another set that has no member of this one.
@@ -272,28 +229,21 @@ impl Members {
         requires { (tidy self ≡ true) × (tidy other ≡ true) × (self.count + other.count ≤ most_members) }
         ensures { result ≡ set_of (members_of self ++ members_of other) }
     {
-        let count = other.count;
         let mut all = self;
-        let mut i = 0;
-        while i < count {
-            all = all.with(other.items[i]);
-            i += 1;
+        for member in other.held() {
+            all = all.with(*member);
         }
         all
     }
 
-    // The union with another set, whose members get their first try.
-    pub(crate) fn joined_afresh(self, other: Members) -> Members
-        requires { (tidy self ≡ true) × (tidy other ≡ true) × (self.count + other.count ≤ most_members) }
-        ensures { result ≡ set_of (members_of self ++ map (tried first_try) (members_of other)) }
+    // The set with so many tries for each member.
+    pub(crate) fn tried(self, tries: u8) -> Members
+        requires { tidy self ≡ true }
+        ensures { result ≡ set_of (map (tried tries) (members_of self)) }
     {
-        let count = other.count;
-        let mut all = self;
-        let mut i = 0;
-        while i < count {
-            let member = other.items[i];
-            all = all.with(member.tried(FIRST_TRY));
-            i += 1;
+        let mut all = Members::none();
+        for member in self.held() {
+            all = all.with(member.tried(tries));
         }
         all
     }

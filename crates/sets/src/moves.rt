@@ -11,7 +11,6 @@ use place::limits::Limits;
 use place::phase::FIRST_TRY;
 use place::place::Direction;
 use record::event::PartnerEvent;
-use wire::join::and;
 
 // Versions of one X.
 const VERSIONS_OF_X: u8 = 16;
@@ -44,22 +43,7 @@ impl Move {
     pub(crate) fn is_taken(self) -> bool
         ensures { result ≡ moves self }
     {
-        match self {
-            Move::Stays => false,
-            Move::Leaves => true,
-            Move::Enters { set: _, tries: _ } => true,
-            Move::Sends {
-                number: _,
-                set: _,
-                tries: _,
-            } => true,
-            Move::SendsBoth {
-                first: _,
-                second: _,
-                set: _,
-                tries: _,
-            } => true,
-        }
+        !matches!(self, Move::Stays)
     }
 }
 
@@ -73,38 +57,17 @@ fn sessions_of(direction: Direction) -> SetName
     }
 }
 
-// A session that ends: 156, and terminating.
-fn terminates() -> Move
-    ensures { result ≡ dropped SetName.OutgoingSessions }
-{
-    Move::Sends {
-        number: TERMINATE,
-        set: SetName::TerminatingSessions,
-        tries: FIRST_TRY,
-    }
-}
-
-// A session whose connection is lost: 21, and lost.
-fn loses() -> Move
-    ensures { result ≡ disconnected SetName.OutgoingSessions }
-{
-    Move::Sends {
-        number: REQUEST,
-        set: SetName::LostSessions,
-        tries: FIRST_TRY,
-    }
-}
-
 // Drop.
 fn dropped(name: SetName) -> Move
     ensures { result ≡ dropped name }
 {
     match name {
-        SetName::Calling => Move::Leaves,
-        SetName::Contacted => Move::Leaves,
-        SetName::IncomingSessions => terminates(),
-        SetName::OutgoingSessions => terminates(),
-        SetName::LostSessions => Move::Leaves,
+        SetName::Calling | SetName::Contacted | SetName::LostSessions => Move::Leaves,
+        SetName::IncomingSessions | SetName::OutgoingSessions => Move::Sends {
+            number: TERMINATE,
+            set: SetName::TerminatingSessions,
+            tries: FIRST_TRY,
+        },
         SetName::TerminatingSessions => Move::Stays,
     }
 }
@@ -119,14 +82,14 @@ fn connected(direction: Direction, name: SetName) -> Move
             set: SetName::Contacted,
             tries: FIRST_TRY,
         },
-        SetName::Contacted => Move::Stays,
-        SetName::IncomingSessions => Move::Stays,
-        SetName::OutgoingSessions => Move::Stays,
         SetName::LostSessions => Move::Enters {
             set: sessions_of(direction),
             tries: SESSION_TRIES,
         },
-        SetName::TerminatingSessions => Move::Stays,
+        SetName::Contacted
+        | SetName::IncomingSessions
+        | SetName::OutgoingSessions
+        | SetName::TerminatingSessions => Move::Stays,
     }
 }
 
@@ -135,12 +98,13 @@ fn disconnected(name: SetName) -> Move
     ensures { result ≡ disconnected name }
 {
     match name {
-        SetName::Calling => Move::Stays,
-        SetName::Contacted => Move::Leaves,
-        SetName::IncomingSessions => loses(),
-        SetName::OutgoingSessions => loses(),
-        SetName::LostSessions => Move::Stays,
-        SetName::TerminatingSessions => Move::Leaves,
+        SetName::Contacted | SetName::TerminatingSessions => Move::Leaves,
+        SetName::IncomingSessions | SetName::OutgoingSessions => Move::Sends {
+            number: REQUEST,
+            set: SetName::LostSessions,
+            tries: FIRST_TRY,
+        },
+        SetName::Calling | SetName::LostSessions => Move::Stays,
     }
 }
 
@@ -164,12 +128,10 @@ fn timed_out(limits: Limits, tries: u8, name: SetName) -> Move
     ensures { result ≡ timed_out limits tries name }
 {
     match name {
-        SetName::Calling => retried(limits, REQUEST, name, tries),
+        SetName::Calling | SetName::LostSessions => retried(limits, REQUEST, name, tries),
         SetName::Contacted => retried(limits, INITIATE, name, tries),
-        SetName::IncomingSessions => Move::Stays,
-        SetName::OutgoingSessions => Move::Stays,
-        SetName::LostSessions => retried(limits, REQUEST, name, tries),
         SetName::TerminatingSessions => retried(limits, TERMINATE, name, tries),
+        SetName::IncomingSessions | SetName::OutgoingSessions => Move::Stays,
     }
 }
 
@@ -178,40 +140,26 @@ fn supports(limits: Limits, version: u8) -> bool
     ensures { result ≡ supported limits version }
 {
     let x = version / VERSIONS_OF_X;
-    and(limits.lowest <= x, x <= limits.highest)
+    (limits.lowest <= x) & (x <= limits.highest)
 }
 
-// The partner's version: compatible, and in session; or not, and terminating.
-fn compared(limits: Limits, version: u8) -> Move
-    ensures { result ≡ answered limits version SetName.Contacted }
-{
-    if supports(limits, version) {
-        Move::Sends {
-            number: ESTABLISHED,
-            set: SetName::OutgoingSessions,
-            tries: SESSION_TRIES,
-        }
-    } else {
-        Move::SendsBoth {
-            first: INCOMPATIBLE,
-            second: TERMINATE,
-            set: SetName::TerminatingSessions,
-            tries: FIRST_TRY,
-        }
-    }
-}
-
-// Message 32.
+// Message 32: compatible, and in session; or not, and terminating.
 fn answered(limits: Limits, version: u8, name: SetName) -> Move
     ensures { result ≡ answered limits version name }
 {
     match name {
-        SetName::Calling => Move::Stays,
-        SetName::Contacted => compared(limits, version),
-        SetName::IncomingSessions => Move::Stays,
-        SetName::OutgoingSessions => Move::Stays,
-        SetName::LostSessions => Move::Stays,
-        SetName::TerminatingSessions => Move::Stays,
+        SetName::Contacted if supports(limits, version) => Move::Sends {
+            number: ESTABLISHED,
+            set: SetName::OutgoingSessions,
+            tries: SESSION_TRIES,
+        },
+        SetName::Contacted => Move::SendsBoth {
+            first: INCOMPATIBLE,
+            second: TERMINATE,
+            set: SetName::TerminatingSessions,
+            tries: FIRST_TRY,
+        },
+        _ => Move::Stays,
     }
 }
 
@@ -220,23 +168,19 @@ fn finished(name: SetName) -> Move
     ensures { result ≡ finished name }
 {
     match name {
-        SetName::Calling => Move::Stays,
-        SetName::Contacted => Move::Stays,
-        SetName::IncomingSessions => Move::Stays,
-        SetName::OutgoingSessions => Move::Stays,
-        SetName::LostSessions => Move::Stays,
         SetName::TerminatingSessions => Move::Leaves,
+        _ => Move::Stays,
     }
 }
 
 // What an event that names a member makes of it.
+#[tactic(auto, unfolding(crate::specs::Moves::move_of))]
 pub(crate) fn move_of(limits: Limits, event: PartnerEvent, name: SetName, member: Member) -> Move
     ensures { result ≡ move_of limits event name member }
 {
-    let direction = member.direction;
     match event {
         PartnerEvent::Drop => dropped(name),
-        PartnerEvent::Up => connected(direction, name),
+        PartnerEvent::Up => connected(member.direction, name),
         PartnerEvent::Loss => disconnected(name),
         PartnerEvent::Timeout => timed_out(limits, member.tries, name),
         PartnerEvent::Version(version) => answered(limits, version, name),

@@ -6,7 +6,6 @@ ghost use Rattle.sets.specs.SetSteps.{in_sessions};
 use place::limits::Limits;
 use place::phase::FIRST_TRY;
 use place::place::Direction;
-use wire::join::and;
 
 // The six sets: of those that are called, that are contacted, that are in session by their own call or by ours, whose connection is lost,
 // and whose session is being terminated.
@@ -18,13 +17,6 @@ pub enum SetName {
     OutgoingSessions,
     LostSessions,
     TerminatingSessions,
-}
-
-// The set that a partner stands in, or none.
-#[derive(Clone, Copy)]
-pub enum Whereabouts {
-    Within(SetName),
-    Nowhere,
 }
 
 // The tries of a member in session.
@@ -42,6 +34,16 @@ const LOST: u8 = 4;
 const ENDING: u8 = 5;
 
 impl SetName {
+    // The six names, in the order in which the sets are asked.
+    pub(crate) const ALL: [SetName; 6] = [
+        SetName::Calling,
+        SetName::Contacted,
+        SetName::IncomingSessions,
+        SetName::OutgoingSessions,
+        SetName::LostSessions,
+        SetName::TerminatingSessions,
+    ];
+
     // The number of the phase that its members are in.
     pub(crate) fn phase(self) -> u8
         ensures { result ≡ phase_in self }
@@ -49,8 +51,7 @@ impl SetName {
         match self {
             SetName::Calling => CONNECTING,
             SetName::Contacted => CONTACTING,
-            SetName::IncomingSessions => OPEN,
-            SetName::OutgoingSessions => OPEN,
+            SetName::IncomingSessions | SetName::OutgoingSessions => OPEN,
             SetName::LostSessions => LOST,
             SetName::TerminatingSessions => ENDING,
         }
@@ -60,56 +61,22 @@ impl SetName {
     pub(crate) fn in_sessions(self) -> bool
         ensures { result ≡ in_sessions self }
     {
-        match self {
-            SetName::Calling => false,
-            SetName::Contacted => false,
-            SetName::IncomingSessions => true,
-            SetName::OutgoingSessions => true,
-            SetName::LostSessions => true,
-            SetName::TerminatingSessions => false,
-        }
+        matches!(
+            self,
+            SetName::IncomingSessions | SetName::OutgoingSessions | SetName::LostSessions
+        )
     }
 
     // Whether a member may have so many tries.
     pub(crate) fn allows_tries(self, tries: u8, limits: Limits) -> bool
         ensures { result ≡ tries_in limits self tries }
     {
-        let within = and(FIRST_TRY <= tries, tries <= limits.tries);
         match self {
-            SetName::Calling => within,
-            SetName::Contacted => within,
-            SetName::IncomingSessions => tries == SESSION_TRIES,
-            SetName::OutgoingSessions => tries == SESSION_TRIES,
-            SetName::LostSessions => within,
-            SetName::TerminatingSessions => within,
-        }
-    }
-
-    // Whether a member may have a connection of our own.
-    fn allows_outgoing(self) -> bool
-        ensures { result ≡ fits_in self Direction.Outgoing }
-    {
-        match self {
-            SetName::Calling => true,
-            SetName::Contacted => true,
-            SetName::IncomingSessions => false,
-            SetName::OutgoingSessions => true,
-            SetName::LostSessions => true,
-            SetName::TerminatingSessions => true,
-        }
-    }
-
-    // Whether a member may have one that the partner made.
-    fn allows_incoming(self) -> bool
-        ensures { result ≡ fits_in self Direction.Incoming }
-    {
-        match self {
-            SetName::Calling => false,
-            SetName::Contacted => false,
-            SetName::IncomingSessions => true,
-            SetName::OutgoingSessions => false,
-            SetName::LostSessions => true,
-            SetName::TerminatingSessions => true,
+            SetName::IncomingSessions | SetName::OutgoingSessions => tries == SESSION_TRIES,
+            SetName::Calling
+            | SetName::Contacted
+            | SetName::LostSessions
+            | SetName::TerminatingSessions => (FIRST_TRY <= tries) & (tries <= limits.tries),
         }
     }
 
@@ -117,9 +84,12 @@ impl SetName {
     pub(crate) fn allows(self, direction: Direction) -> bool
         ensures { result ≡ fits_in self direction }
     {
-        match direction {
-            Direction::Outgoing => self.allows_outgoing(),
-            Direction::Incoming => self.allows_incoming(),
+        match self {
+            SetName::Calling | SetName::Contacted | SetName::OutgoingSessions => {
+                matches!(direction, Direction::Outgoing)
+            }
+            SetName::IncomingSessions => matches!(direction, Direction::Incoming),
+            SetName::LostSessions | SetName::TerminatingSessions => true,
         }
     }
 }

@@ -1,205 +1,34 @@
-// The run of the engine of sets over a log: a record is taken and stepped, and so on from there.
-ghost use Rattle.std.specs.Prelude.{◌≡◌, ◌+◌, ◌*◌, ◌≤◌, cond, eqb, length, take};
-ghost use Rattle.record.specs.Takes.{longest_log};
-ghost use Rattle.unit.specs.Counting.{most_total, added, Below};
-ghost use Rattle.unit.specs.Forms.{most_actions};
-ghost use Rattle.unit.specs.Runs.{totalled};
-ghost use Rattle.wire.specs.Refusals.{accepted};
-ghost use Rattle.sets.specs.SetRuns.{set_fresh, set_ended, set_go, set_run};
-ghost use Rattle.sets.specs.Holding.{set_tallying};
+// The run of the engine of sets over a log: that of a machine.
+ghost use Rattle.std.specs.Prelude.{◌≡◌};
+ghost use Rattle.sets.specs.SixSets.{set_ready};
+ghost use Rattle.sets.specs.SetRuns.{set_gives, set_run};
 
-use crate::answer::SetAnswer;
 use crate::state::SetState;
-use place::action::{ESTABLISHED, INCOMPATIBLE, INITIATE, RELEASE, REQUEST, TERMINATE};
-use record::take::{BUDGET_USED, LONGEST_LOG, NOTHING_LEFT, Taken, take_one};
-use unit::answer::Actions;
-use unit::run::Totals;
-use wire::refusal::{ACCEPTED, LOG_TOO_LONG, NOT_SOUND};
+use runs::machine::{Applied, Machine};
+use runs::run::MachineReport;
 
-// A run so far: the state, the offset reached, the records read and refused, and the totals.
-#[derive(Clone, Copy)]
-pub struct SetTally {
-    pub state: SetState,
-    pub offset: usize,
-    pub read: u32,
-    pub refused: u32,
-    pub totals: Totals,
-}
+impl Machine for SetState {
+    ghost ready = { set_ready };
 
-// What a run answers: 0 or the number of the refusal, the stop, and the run as far as it came.
-#[derive(Clone, Copy)]
-pub struct SetReport {
-    pub code: u8,
-    pub stop: u8,
-    pub tally: SetTally,
-}
+    ghost gives = { set_gives };
 
-// A count as a number of 64 bits.
-fn wide(n: u32) -> usize
-    ensures { result ≡ n }
-{
-    n as usize
-}
-
-// One more action of this number.
-fn add(totals: Totals, number: u8) -> Totals
-    requires { Below (2 * most_total) totals }
-    ensures { result ≡ added totals number }
-{
-    let mut next = totals;
-    match number {
-        REQUEST => {
-            next.request += 1;
-            next
-        }
-        RELEASE => {
-            next.release += 1;
-            next
-        }
-        INCOMPATIBLE => {
-            next.incompatible += 1;
-            next
-        }
-        INITIATE => {
-            next.initiate += 1;
-            next
-        }
-        TERMINATE => {
-            next.terminate += 1;
-            next
-        }
-        ESTABLISHED => {
-            next.established += 1;
-            next
-        }
-        _ => next,
-    }
-}
-
-// The actions of a step counted.
-fn add_all(counted: Totals, actions: Actions) -> Totals
-    requires { (Below most_total counted) × (actions.count ≤ most_actions) }
-    ensures { result ≡ totalled counted (take actions.count actions.items) }
-{
-    let count = actions.count;
-    let mut totals = counted;
-    let mut i = 0;
-    while i < count {
-        let action = actions.items[i];
-        totals = add(totals, action.number);
-        i += 1;
-    }
-    totals
-}
-
-// 1 where a step was refused.
-fn refusal(code: u8) -> u32
-    ensures { result ≡ cond (eqb code accepted) 0 1 }
-{
-    if code == ACCEPTED { 0 } else { 1 }
-}
-
-impl SetTally {
-    // A run before its first record.
-    fn fresh(state: SetState) -> SetTally
-        ensures { result ≡ set_fresh state }
-    {
-        SetTally {
-            state,
-            offset: 0,
-            read: 0,
-            refused: 0,
-            totals: Totals {
-                request: 0,
-                release: 0,
-                incompatible: 0,
-                initiate: 0,
-                terminate: 0,
-                established: 0,
-            },
-        }
+    fn is_ready(self) -> bool {
+        self.is_sound()
     }
 
-    // The run after a record of this length that was answered so.
-    fn count(self, length: usize, answer: SetAnswer) -> SetTally
-        requires { (self.offset + length ≤ longest_log)
-            × (self.read ≤ self.offset)
-            × (self.refused ≤ self.read)
-            × (Below most_total self.totals)
-            × (answer.actions.count ≤ most_actions) }
-        ensures { result ≡ set_tallying self length answer }
-    {
-        let state = answer.state;
-        let actions = answer.actions;
-        let totals = self.totals;
-        SetTally {
-            state,
-            offset: self.offset + length,
-            read: self.read + 1,
-            refused: self.refused + refusal(answer.code),
-            totals: add_all(totals, actions),
-        }
-    }
-
-    fn report(self, stop: u8) -> SetReport
-        ensures { result ≡ set_ended self stop }
-    {
-        SetReport {
-            code: ACCEPTED,
-            stop,
-            tally: self,
-        }
-    }
-}
-
-// The records of a log, taken and stepped.
-fn go(start: SetState, log: &[u8], budget: usize) -> SetReport
-    requires { length log.now ≤ longest_log }
-    ensures { result ≡ set_go budget (set_fresh start) log.now }
-{
-    let mut tally = SetTally::fresh(start);
-    loop {
-        let at = tally.offset;
-        if at >= log.len() {
-            break tally.report(NOTHING_LEFT);
-        }
-        if wide(tally.read) == budget {
-            break tally.report(BUDGET_USED);
-        }
-        match take_one(log, at) {
-            Taken::Stopped(stop) => {
-                break tally.report(stop);
-            }
-            Taken::Refused(code) => {
-                break tally.report(code);
-            }
-            Taken::Whole { length, reading: _ } => {
-                let end = at + length;
-                let state = tally.state;
-                tally = tally.count(length, state.apply(&log[at..end]));
-            }
+    fn answer(self, bytes: &[u8]) -> Applied<SetState> {
+        let answer = self.apply(bytes);
+        Applied {
+            code: answer.code,
+            state: answer.state,
+            actions: answer.actions,
         }
     }
 }
 
 // Runs over a log with a budget of records: refusal 12 for a log over 1,048,576 bytes, then 11 for a state that is not sound.
-pub fn run(state: SetState, log: &[u8], budget: usize) -> SetReport
+pub fn run(state: SetState, log: &[u8], budget: usize) -> MachineReport<SetState>
     ensures { result ≡ set_run state log.now budget }
 {
-    if log.len() > LONGEST_LOG {
-        return SetReport {
-            code: LOG_TOO_LONG,
-            stop: 0,
-            tally: SetTally::fresh(state),
-        };
-    }
-    if state.is_sound() {
-        go(state, log, budget)
-    } else {
-        SetReport {
-            code: NOT_SOUND,
-            stop: 0,
-            tally: SetTally::fresh(state),
-        }
-    }
+    runs::run::run(state, log, budget)
 }

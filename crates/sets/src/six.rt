@@ -1,14 +1,14 @@
 // The six sets together.
-ghost use Rattle.std.specs.Prelude.{◌≡◌, true, cond, ◌≤◌};
-ghost use Rattle.sets.specs.Members.{most_members, set_of};
-ghost use Rattle.sets.specs.SixSets.{size, everyone, whereabouts, members_ok, unpacked_six, packed_six, tidy_six, no_sets};
-ghost use Rattle.sets.specs.Holding.{held_set, with_held, sound_six};
+ghost use Rattle.std.specs.Prelude.{◌≡◌, true, ◌≤◌, find};
+ghost use Rattle.std.specs.List.{list_all};
+ghost use Rattle.sets.specs.Members.{most_members, has_member, all_of, members_of, set_of, tidy};
+ghost use Rattle.sets.specs.SixSets.{size, everyone, member_ok, unpacked_six, packed_six, tidy_six, no_sets};
+ghost use Rattle.sets.specs.Holding.{six_names, held_set, with_held, sound_six};
 
 use crate::members::{MOST_MEMBERS, Members};
-use crate::names::{SetName, Whereabouts};
+use crate::names::SetName;
 use place::limits::Limits;
 use record::partner::Partner;
-use wire::join::and;
 
 // The six sets.
 #[derive(Clone, Copy)]
@@ -19,17 +19,6 @@ pub struct SixSets {
     pub outgoing: Members,
     pub lost: Members,
     pub terminating: Members,
-}
-
-// Within the set of this name if the partner is a member of it, and elsewhere if it is not.
-fn standing(here: bool, name: SetName, elsewhere: Whereabouts) -> Whereabouts
-    ensures { result ≡ cond here (Whereabouts.Within name) elsewhere }
-{
-    if here {
-        Whereabouts::Within(name)
-    } else {
-        elsewhere
-    }
 }
 
 impl SixSets {
@@ -66,103 +55,60 @@ impl SixSets {
     pub(crate) fn with_set(self, name: SetName, members: Members) -> SixSets
         ensures { result ≡ with_held name members self }
     {
-        let mut next = self;
         match name {
-            SetName::Calling => {
-                next.calling = members;
-                next
-            }
-            SetName::Contacted => {
-                next.contacted = members;
-                next
-            }
-            SetName::IncomingSessions => {
-                next.incoming = members;
-                next
-            }
-            SetName::OutgoingSessions => {
-                next.outgoing = members;
-                next
-            }
-            SetName::LostSessions => {
-                next.lost = members;
-                next
-            }
-            SetName::TerminatingSessions => {
-                next.terminating = members;
-                next
-            }
+            SetName::Calling => SixSets {
+                calling: members,
+                ..self
+            },
+            SetName::Contacted => SixSets {
+                contacted: members,
+                ..self
+            },
+            SetName::IncomingSessions => SixSets {
+                incoming: members,
+                ..self
+            },
+            SetName::OutgoingSessions => SixSets {
+                outgoing: members,
+                ..self
+            },
+            SetName::LostSessions => SixSets {
+                lost: members,
+                ..self
+            },
+            SetName::TerminatingSessions => SixSets {
+                terminating: members,
+                ..self
+            },
         }
     }
 
     // Whether each set has zeros after its members.
     fn are_tidy(self) -> bool
-        ensures { result ≡ tidy_six self }
+        ensures { result ≡ list_all (λ name. tidy (held_set name self)) six_names }
     {
-        let calling = self.calling;
-        let contacted = self.contacted;
-        let incoming = self.incoming;
-        let outgoing = self.outgoing;
-        let lost = self.lost;
-        let terminating = self.terminating;
-        and(
-            calling.is_tidy(),
-            and(
-                contacted.is_tidy(),
-                and(
-                    incoming.is_tidy(),
-                    and(
-                        outgoing.is_tidy(),
-                        and(lost.is_tidy(), terminating.is_tidy()),
-                    ),
-                ),
-            ),
-        )
+        SetName::ALL.iter().all(|name| self.set(*name).is_tidy())
     }
 
     // How many members there are in all.
+    #[tactic(auto, using(crate::proofs::SixLaws::counted))]
     pub(crate) fn size(self) -> usize
         requires { tidy_six self ≡ true }
         ensures { result ≡ size (unpacked_six self) }
     {
-        let calling = self.calling;
-        let contacted = self.contacted;
-        let incoming = self.incoming;
-        let outgoing = self.outgoing;
-        let lost = self.lost;
-        let terminating = self.terminating;
-        calling.count
-            + (contacted.count
-                + (incoming.count + (outgoing.count + (lost.count + terminating.count))))
+        self.calling.count
+            + (self.contacted.count
+                + (self.incoming.count
+                    + (self.outgoing.count + (self.lost.count + self.terminating.count))))
     }
 
     // Whether each member of each set is sound by itself.
     fn are_sound(self, limits: Limits) -> bool
-        requires { tidy_six self ≡ true }
-        ensures { result ≡ members_ok limits (unpacked_six self) }
+        ensures { result ≡ list_all (λ name. all_of (member_ok limits name) (members_of (held_set name self))) six_names }
     {
-        let calling = self.calling;
-        let contacted = self.contacted;
-        let incoming = self.incoming;
-        let outgoing = self.outgoing;
-        let lost = self.lost;
-        let terminating = self.terminating;
-        and(
-            calling.are_sound(SetName::Calling, limits),
-            and(
-                contacted.are_sound(SetName::Contacted, limits),
-                and(
-                    incoming.are_sound(SetName::IncomingSessions, limits),
-                    and(
-                        outgoing.are_sound(SetName::OutgoingSessions, limits),
-                        and(
-                            lost.are_sound(SetName::LostSessions, limits),
-                            terminating.are_sound(SetName::TerminatingSessions, limits),
-                        ),
-                    ),
-                ),
-            ),
-        )
+        SetName::ALL
+            .iter()
+            .all(|name| self.set(*name).are_sound(*name, limits))
     }
 
     // The union of the six.
@@ -170,70 +116,29 @@ impl SixSets {
         requires { (tidy_six self ≡ true) × (size (unpacked_six self) ≤ most_members) }
         ensures { result ≡ set_of (everyone (unpacked_six self)) }
     {
-        let calling = self.calling;
-        let contacted = self.contacted;
-        let incoming = self.incoming;
-        let outgoing = self.outgoing;
-        let lost = self.lost;
-        let terminating = self.terminating;
-        calling.joined(contacted.joined(incoming.joined(outgoing.joined(lost.joined(terminating)))))
+        let mut all = Members::none();
+        for name in SetName::ALL {
+            all = all.joined(self.set(name));
+        }
+        all
     }
 
     // Whether the sets are in their form, of at most four members in all, each sound by itself, and no partner stands twice.
     pub(crate) fn is_sound(self, limits: Limits) -> bool
         ensures { result ≡ sound_six limits self }
     {
-        if self.are_tidy() {
-            if self.size() <= MOST_MEMBERS {
-                if self.are_sound(limits) {
-                    let all = self.everyone();
-                    all.are_apart()
-                } else {
-                    false
-                }
-            } else {
-                false
-            }
-        } else {
-            false
-        }
+        self.are_tidy()
+            && (self.size() <= MOST_MEMBERS
+                && (self.are_sound(limits) && self.everyone().are_apart()))
     }
 
-    // The set that the partner stands in.
-    pub(crate) fn whereabouts(self, partner: Partner) -> Whereabouts
-        requires { tidy_six self ≡ true }
-        ensures { result ≡ whereabouts partner (unpacked_six self) }
+    // The name of the set that the partner stands in.
+    pub(crate) fn whereabouts(self, partner: Partner) -> Option<SetName>
+        ensures { result ≡ find (λ name. has_member partner (members_of (held_set name self))) six_names }
     {
-        let calling = self.calling;
-        let contacted = self.contacted;
-        let incoming = self.incoming;
-        let outgoing = self.outgoing;
-        let lost = self.lost;
-        let terminating = self.terminating;
-        standing(
-            calling.has(partner),
-            SetName::Calling,
-            standing(
-                contacted.has(partner),
-                SetName::Contacted,
-                standing(
-                    incoming.has(partner),
-                    SetName::IncomingSessions,
-                    standing(
-                        outgoing.has(partner),
-                        SetName::OutgoingSessions,
-                        standing(
-                            lost.has(partner),
-                            SetName::LostSessions,
-                            standing(
-                                terminating.has(partner),
-                                SetName::TerminatingSessions,
-                                Whereabouts::Nowhere,
-                            ),
-                        ),
-                    ),
-                ),
-            ),
-        )
+        SetName::ALL
+            .iter()
+            .copied()
+            .find(|name| self.set(*name).has(partner))
     }
 }

@@ -20,18 +20,14 @@ pub fn set_start(limits: Limits) -> SetStarted
 {
     let started = cold_start(limits);
     let state = started.state;
-    let limits = state.limits;
-    let train = state.train;
-    let marks = state.marks;
-    let last = state.last;
     SetStarted {
         code: started.code,
         state: SetState {
-            limits,
-            train,
-            marks,
+            limits: state.limits,
+            train: state.train,
+            marks: state.marks,
             sets: SixSets::none(),
-            last,
+            last: state.last,
         },
     }
 }

@@ -6,7 +6,6 @@ use crate::six::SixSets;
 use place::limits::Limits;
 use unit::last::Last;
 use unit::state::{Marks, Train, limits_ok, marks_ok, train_ok};
-use wire::join::and;
 
 // All that the engine remembers: the box's fields, with six sets of partners in place of four places.
 #[derive(Clone, Copy)]
@@ -23,17 +22,8 @@ impl SetState {
     pub fn is_sound(self) -> bool
         ensures { result ≡ set_ready self }
     {
-        let limits = self.limits;
-        let train = self.train;
-        let marks = self.marks;
-        let sets = self.sets;
-        let last = self.last;
-        and(
-            limits_ok(limits),
-            and(
-                train_ok(train),
-                and(marks_ok(marks), and(last.is_sound(), sets.is_sound(limits))),
-            ),
-        )
+        limits_ok(self.limits)
+            & (train_ok(self.train)
+                & (marks_ok(self.marks) & (self.last.is_sound() & self.sets.is_sound(self.limits))))
     }
 }

@@ -1,23 +1,28 @@
 #![tactic(auto)]
 // The sheets of six logs, each after its name: empty, 4,096 bytes, one byte more, 4,096 records, a short record at the end, an
 // unknown kind.
+use named_files::{Shows, show_each};
+use std::fs::File;
 use std::io;
-use streams::fail;
-use streams::files::open_read;
 
-fn sheet_of(rt: &HostRuntime, name: &[u8], path: &[u8]) -> io::Result<()> {
-    rt.write_all(name)?;
-    match open_read(rt, path) {
-        Ok(mut file) => sheet_body::sheet(rt, &mut file),
-        Err(error) => fail(&rt.stderr(), path, error),
+const FILES: [(&str, &str); 6] = [
+    ("empty", "empty.bin"),
+    ("full", "full.bin"),
+    ("long", "long.bin"),
+    ("ones", "ones.bin"),
+    ("short", "short.bin"),
+    ("unknown", "unknown.bin"),
+];
+
+// The sheet of a log.
+struct Sheet;
+
+impl Shows for Sheet {
+    fn show(rt: &HostRuntime, file: &mut File) -> io::Result<()> {
+        sheet_body::sheet(rt, file)
     }
 }
 
 fn main(rt: HostRuntime) -> io::Result<()> {
-    sheet_of(&rt, b"empty\n", b"empty.bin")?;
-    sheet_of(&rt, b"full\n", b"full.bin")?;
-    sheet_of(&rt, b"long\n", b"long.bin")?;
-    sheet_of(&rt, b"ones\n", b"ones.bin")?;
-    sheet_of(&rt, b"short\n", b"short.bin")?;
-    sheet_of(&rt, b"unknown\n", b"unknown.bin")
+    show_each::<Sheet>(&rt, &FILES)
 }

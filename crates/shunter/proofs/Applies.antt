@@ -1,20 +1,19 @@
 -- The step on a record, by what the code's tests showed.
--- Proves: sound-number, applied-unruled, applied-count, applied-eleven, applied-on.
+-- Proves: sound-number, applied-unruled, applied-eleven, applied-on.
 use mathlib.Core.Path.{◌≡◌, refl, sym, ap, ap₂, subst, ◌∙◌}
 use mathlib.Core.Bool.{true, false, cond, ◌&&◌}
 use mathlib.Core.List.{List}
 use mathlib.Core.Logic.{⊎_elim}
 use Prim.Native.Nat.{ℕ, ◌≤◌}
 use native.Mathlib.Omega.{arith}
-use lib.ListN.{length}
 use borrow.Table.Steps.{cases}
 use Rattle.record.specs.Records.{reading}
 use Rattle.record.specs.Ranges.{reading_number}
-use Rattle.record.specs.declared.event.Reading.{Reading}
-use Rattle.record.specs.declared.event.Reading.TheVariants.{Meant, Refused}
+use Rattle.record.specs.Readings.{Reading}
+use Rattle.record.specs.Readings.{Meant, Refused}
 use Rattle.record.proofs.Ranges.{reading-number}
 use Rattle.wire.specs.Refusals.{out_of_range, not_sound}
-use Rattle.unit.specs.Forms.{most_actions, packed}
+use Rattle.unit.specs.Forms.{packed}
 use Rattle.unit.specs.OnRecords.{action_room, on_reading, applied, on_record}
 use Rattle.unit.specs.Standings.{concern_of}
 use Rattle.unit.specs.States.{sound}
@@ -22,7 +21,6 @@ use Rattle.unit.specs.Steps.{Outcome}
 use Rattle.unit.specs.declared.answer.Answer.{Answer}
 use Rattle.unit.specs.declared.state.State.{State}
 use Rattle.unit.proofs.Effects.{step-number}
-use Rattle.unit.proofs.Few.{on_record-few}
 use Rattle.unit.proofs.OnBytes.{bytes-unsound, bytes-reading, on-enough}
 use Rattle.shunter.specs.Queues.{rules_hold, ready}
 use Rattle.shunter.specs.Shunting.{shunt_refused, on_concern, applying, shunted}
@@ -30,7 +28,6 @@ use Rattle.shunter.specs.Sending.{Good}
 use Rattle.shunter.specs.declared.answer.Shunted.{Shunted}
 use Rattle.shunter.specs.declared.state.Shunter.{Shunter}
 use Rattle.shunter.proofs.TwoTests.{and_none}
-use Rattle.shunter.proofs.Answers.{packed-count}
 use Rattle.shunter.proofs.Goods.{good}
 
 -- the number of an outcome of a sound state is not 11
@@ -64,12 +61,6 @@ module _ (h : Shunter) (bytes : List ℕ) where
     code : answer.code ≡ (applied s bytes).code
     unfolding packed
     code = ap (λ a. a.code) is
-
-    -- the core's answer has at most four actions
-    pub applied-count : answer.actions.count ≤ most_actions
-    applied-count =
-        let same = ap (λ o. length o.actions) (on-enough s bytes action_room (omega arith)) in
-        omega (arith, packed-count answer (applied s bytes) is, same, on_record-few s bytes action_room)
 
     -- the core says 11: its state is not sound
     pub applied-eleven : answer.code ≡ not_sound → applying h bytes ≡ shunt_refused not_sound h

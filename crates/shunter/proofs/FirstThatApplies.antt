@@ -14,7 +14,7 @@ use borrow.Author.Tests.{le-leb, lt-leb, eq-eqb, ne_eqb}
 use Rattle.wire.specs.Refusals as refusal
 use Rattle.wire.proofs.Tests.{and_both, cond-holds}
 use Rattle.record.specs.Records.{reading}
-use Rattle.record.specs.declared.event.Reading.TheVariants.{Meant, Refused}
+use Rattle.record.specs.Readings.{Meant, Refused}
 use Rattle.record.specs.declared.event.Event.TheVariants.{Named}
 use Rattle.record.specs.declared.event.PartnerEvent.{PartnerEvent}
 use Rattle.record.specs.declared.event.PartnerEvent.TheVariants.{Up, Loss, Timeout}

@@ -23,8 +23,6 @@ pub mod Sends
 pub mod Answers
 pub mod Applies
 pub mod ShunterSent
-pub mod ShunterCounts
-pub mod ShunterGoing
 pub mod ShownShunter
 pub mod ShunterWords
 pub mod OneAnswer

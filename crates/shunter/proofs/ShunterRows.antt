@@ -12,8 +12,8 @@ use borrow.Author.Tests.{le-leb, lt-leb}
 use Rattle.record.specs.Takes.{longest_log, taken, on_taken}
 use Rattle.record.specs.TakeWords.{TakenOk}
 use Rattle.record.proofs.Takes.{taken-ok}
-use Rattle.record.specs.declared.take.Taken.{Taken}
-use Rattle.record.specs.declared.take.Taken.TheVariants.{Whole, Stopped, Refused}
+use Rattle.record.specs.Takes.{Taken}
+use Rattle.record.specs.Takes.{Whole, Stopped, Overlong}
 use Rattle.unit.specs.OnRecords.{action_room, on_record}
 use Rattle.unit.specs.States.{sound}
 use Rattle.unit.specs.Steps.{Outcome}
@@ -24,41 +24,43 @@ use Rattle.unit.specs.Runs.{no_totals, totalled, stops, applies, course, fresh, 
 use Rattle.unit.proofs.Runs.Tallies.{totalled_none, totalled-append}
 use Rattle.shunter.specs.Queues.{ready}
 use Rattle.shunter.specs.Shunting.{shunt}
-use Rattle.shunter.specs.ShunterRuns.{fresh_run, shunter_tallied, reported, shunter_go, shunter_refused, shunter_run}
+use Rattle.runs.specs.MachineRuns.{machine_fresh, machine_counted, machine_ended, machine_go, machine_run}
+use Rattle.shunter.specs.ShunterRuns.{shunter_gives, shunter_run}
+use Rattle.shunter.specs.ShunterGoings.{shunter_go, shunter_refused}
 use Rattle.shunter.specs.ShunterSums.{rows_in, shunter_sent, refusals}
 use Rattle.shunter.specs.ShunterHistories.{shunter_after, shunter_sum}
 use Rattle.shunter.specs.declared.state.Shunter.{Shunter}
-use Rattle.shunter.specs.declared.run.ShunterTally.{ShunterTally}
-use Rattle.shunter.specs.declared.run.ShunterReport.{ShunterReport}
+use Rattle.runs.specs.declared.run.MachineReport.{MachineReport}
+use Rattle.runs.specs.declared.run.MachineTally.{MachineTally}
 
 -- a run so far, and the history of the records that it goes on to take
-pub record Followed (t : ShunterTally) (rows : List (List ℕ)) (r : ShunterReport) : Type 0 where
-  pub shunter : r.tally.shunter ≡ shunter_after t.shunter rows
+pub record Followed (t : MachineTally Shunter) (rows : List (List ℕ)) (r : MachineReport Shunter) : Type 0 where
+  pub shunter : r.tally.state ≡ shunter_after t.state rows
   pub read : r.tally.read ≡ t.read + length rows
-  pub refused : r.tally.refused ≡ t.refused + refusals t.shunter rows
-  pub totals : r.tally.totals ≡ totalled t.totals (shunter_sent t.shunter rows)
+  pub refused : r.tally.refused ≡ t.refused + refusals t.state rows
+  pub totals : r.tally.totals ≡ totalled t.totals (shunter_sent t.state rows)
 
-followed-none : (t : ShunterTally) (stop : ℕ) → Followed t [] (reported t stop)
+followed-none : (t : MachineTally Shunter) (stop : ℕ) → Followed t [] (machine_ended t stop)
 unfolding shunter_after shunter_sum shunter_sent
 followed-none t stop =
     record { shunter = refl; read = omega arith; refused = omega arith; totals = sym (totalled_none t.totals) }
 
-followed : (budget : ℕ) (t : ShunterTally) (log : List ℕ) → Followed t (rows_in budget log) (shunter_go budget t log)
-unfolding shunter_go rows_in shunter_tallied shunter_after shunter_sum shunter_sent
+followed : (budget : ℕ) (t : MachineTally Shunter) (log : List ℕ) → Followed t (rows_in budget log) (shunter_go budget t log)
+unfolding machine_go rows_in machine_counted shunter_after shunter_sum shunter_sent
 followed zero t [] = followed-none t _
 followed zero t (kind ∷ rest) = followed-none t _
 followed (suc budget) t log =
-    by (taken log) (λ k. followed budget (shunter_tallied t k (shunt t.shunter (take k log) action_room)) (drop k log))
+    by (taken log) (λ k. followed budget (machine_counted t k (shunter_gives t.state (take k log))) (drop k log))
   where
     by : (x : Taken)
         → ((k : ℕ)
-        → Followed (shunter_tallied t k (shunt t.shunter (take k log) action_room)) (rows_in budget (drop k log))
-        (shunter_go budget (shunter_tallied t k (shunt t.shunter (take k log) action_room)) (drop k log)))
+        → Followed (machine_counted t k (shunter_gives t.state (take k log))) (rows_in budget (drop k log))
+        (shunter_go budget (machine_counted t k (shunter_gives t.state (take k log))) (drop k log)))
         → Followed t (on_taken x (λ stop. []) (λ k. take k log ∷ rows_in budget (drop k log)))
-        (on_taken x (reported t)
-        (λ k. shunter_go budget (shunter_tallied t k (shunt t.shunter (take k log) action_room)) (drop k log)))
+        (on_taken x (machine_ended t)
+        (λ k. shunter_go budget (machine_counted t k (shunter_gives t.state (take k log))) (drop k log)))
     by (Whole k r) rest =
-        let x = shunt t.shunter (take k log) action_room in
+        let x = shunt t.state (take k log) action_room in
         let f = rest k in
         let read = f.read in
         let refused = f.refused in
@@ -69,66 +71,66 @@ followed (suc budget) t log =
           totals = f.totals ∙ sym (totalled-append t.totals x.actions (shunter_sent x.shunter (rows_in budget (drop k log))));
         }
     by (Stopped stop) rest = followed-none t stop
-    by (Refused r) rest = followed-none t r
+    by (Overlong r) rest = followed-none t r
 
 module _ (h : Shunter) (log : List ℕ) (budget : ℕ) where
   -- "Run: 12, 11": a refused run has stop, offset and counts 0 and the state as given
   -- promise
   pub run-twelve : 1_048_576 < length log → shunter_run h log budget ≡ shunter_refused 12 h
-  unfolding shunter_run
+  unfolding machine_run
   run-twelve long = simp (lt-leb (length log) longest_log long)
 
   module _ (fits : length log ≤ 1_048_576) where
     -- a shunter that is not sound is refused
     -- promise
     pub run-eleven : ready h ≡ false → shunter_run h log budget ≡ shunter_refused 11 h
-    unfolding shunter_run
+    unfolding machine_run
     run-eleven bad = simp (le-leb (length log) longest_log fits, bad)
 
     module _ (good : ready h ≡ true) where
-      ran : shunter_run h log budget ≡ shunter_go budget (fresh_run h) log
-      unfolding shunter_run
+      ran : shunter_run h log budget ≡ shunter_go budget (machine_fresh h) log
+      unfolding machine_run
       ran = simp (le-leb (length log) longest_log fits, good)
 
       -- the shunter after a run is the one after its records
       -- promise
-      pub run-after : (shunter_run h log budget).tally.shunter ≡ shunter_after h (rows_in budget log)
-      run-after = ap (λ (r : ShunterReport). r.tally.shunter) ran ∙ (followed budget (fresh_run h) log).shunter
+      pub run-after : (shunter_run h log budget).tally.state ≡ shunter_after h (rows_in budget log)
+      run-after = ap (λ (r : MachineReport Shunter). r.tally.state) ran ∙ (followed budget (machine_fresh h) log).shunter
 
       -- "17 and 18 .. count as refused in a run": records read and refused are those of its steps
       -- promise
       pub run-counts : ((shunter_run h log budget).tally.read ≡ length (rows_in budget log))
           × ((shunter_run h log budget).tally.refused ≡ refusals h (rows_in budget log))
       run-counts =
-          let f = followed budget (fresh_run h) log in
+          let f = followed budget (machine_fresh h) log in
           let read = f.read in
           let refused = f.refused in (
-            ap (λ (r : ShunterReport). r.tally.read) ran ∙ omega arith,
-            ap (λ (r : ShunterReport). r.tally.refused) ran ∙ omega arith,
+            ap (λ (r : MachineReport Shunter). r.tally.read) ran ∙ omega arith,
+            ap (λ (r : MachineReport Shunter). r.tally.refused) ran ∙ omega arith,
           )
 
       -- "the run's totals are of what went out"
       -- promise
       pub run-totals : (shunter_run h log budget).tally.totals ≡ totalled no_totals (shunter_sent h (rows_in budget log))
-      run-totals = ap (λ (r : ShunterReport). r.tally.totals) ran ∙ (followed budget (fresh_run h) log).totals
+      run-totals = ap (λ (r : MachineReport Shunter). r.tally.totals) ran ∙ (followed budget (machine_fresh h) log).totals
 
 -- a run stops where the core's run over the same log stops, whatever the two answer to the records
-stops_same : (budget : ℕ) (t : ShunterTally) (u : Tally) (log : List ℕ)
+stops_same : (budget : ℕ) (t : MachineTally Shunter) (u : Tally) (log : List ℕ)
     → t.offset ≡ u.offset
     → ((shunter_go budget t log).stop ≡ (go budget u log).stop)
     × ((shunter_go budget t log).tally.offset ≡ (go budget u log).tally.offset)
-unfolding shunter_go shunter_tallied course tallied counted
+unfolding machine_go machine_counted course tallied counted
 stops_same zero t u [] same = (refl, same)
 stops_same zero t u (kind ∷ rest) same = (refl, same)
 stops_same (suc budget) t u log same =
     by (taken log) (taken-ok log)
     (λ k whole.
-    stops_same budget (shunter_tallied t k (shunt t.shunter (take k log) action_room))
+    stops_same budget (machine_counted t k (shunter_gives t.state (take k log)))
     (counted u (length (take k log)) (on_record u.state (take k log) action_room)) (drop k log)
     (ap (λ n. n + k) same ∙ ap (λ n. u.offset + n) (sym (length-take-le k log whole))))
   where
-    next : ℕ → ShunterTally
-    next k = shunter_tallied t k (shunt t.shunter (take k log) action_room)
+    next : ℕ → MachineTally Shunter
+    next k = machine_counted t k (shunter_gives t.state (take k log))
 
     other : ℕ → Outcome
     other k = on_record u.state (take k log) action_room
@@ -141,13 +143,13 @@ stops_same (suc budget) t u log same =
         ≡ (go budget (counted u (length (take k log)) (other k)) (drop k log)).stop)
         × ((shunter_go budget (next k) (drop k log)).tally.offset
         ≡ (go budget (counted u (length (take k log)) (other k)) (drop k log)).tally.offset))
-        → ((on_taken x (reported t) (λ k. shunter_go budget (next k) (drop k log))).stop
+        → ((on_taken x (machine_ended t) (λ k. shunter_go budget (next k) (drop k log))).stop
         ≡ (tallied u (on_taken x stops (λ k. applies (take k log) (other k) (course budget (other k).state (drop k log))))).stop)
-        × ((on_taken x (reported t) (λ k. shunter_go budget (next k) (drop k log))).tally.offset
+        × ((on_taken x (machine_ended t) (λ k. shunter_go budget (next k) (drop k log))).tally.offset
         ≡ (tallied u (on_taken x stops (λ k. applies (take k log) (other k) (course budget (other k).state (drop k log))))).tally.offset)
     by (Whole k r) ok rest = rest k ok.1
     by (Stopped stop) ok rest = (refl, same)
-    by (Refused r) ok rest = (refl, same)
+    by (Overlong r) ok rest = (refl, same)
 
 -- the stop and the offset of a run are those of the core's run over the same log, from any box
 -- promise
@@ -159,9 +161,9 @@ pub run-stop : (h : Shunter) (s : State) (log : List ℕ) (budget : ℕ)
     × ((shunter_run h log budget).tally.offset ≡ (run s log budget).tally.offset)
 unfolding run
 run-stop h s log budget fits good ok =
-    let same = stops_same budget (fresh_run h) (fresh s) log refl in
+    let same = stops_same budget (machine_fresh h) (fresh s) log refl in
     let mine = ran h log budget fits good in
     let theirs : run s log budget ≡ go budget (fresh s) log = simp (le-leb (length log) longest_log fits, ok) in (
-      ap (λ (r : ShunterReport). r.stop) mine ∙ same.0 ∙ sym (ap (λ (r : Report). r.stop) theirs),
-      ap (λ (r : ShunterReport). r.tally.offset) mine ∙ same.1 ∙ sym (ap (λ (r : Report). r.tally.offset) theirs),
+      ap (λ (r : MachineReport Shunter). r.stop) mine ∙ same.0 ∙ sym (ap (λ (r : Report). r.stop) theirs),
+      ap (λ (r : MachineReport Shunter). r.tally.offset) mine ∙ same.1 ∙ sym (ap (λ (r : Report). r.tally.offset) theirs),
     )

@@ -18,7 +18,7 @@ use Rattle.record.specs.declared.event.Cause.{Cause}
 use Rattle.record.specs.declared.event.PartnerEvent.{PartnerEvent}
 use Rattle.record.specs.declared.event.PartnerEvent.TheVariants.{Drop, Up, Loss, Timeout, Version, Ended}
 use Rattle.record.specs.declared.event.Event.TheVariants.{Level, Mission, Mode, Hole, Order, EndAll, Call, Named}
-use Rattle.record.specs.declared.event.Reading.TheVariants.{Refused}
+use Rattle.record.specs.Readings.{Refused}
 use Rattle.wire.proofs.Tests.{and_left, and_right, and_both}
 use Rattle.place.specs.Places.{vacant, seat}
 use Rattle.place.specs.Table.{first_try}

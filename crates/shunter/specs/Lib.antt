@@ -5,3 +5,4 @@ pub mod ShunterRuns
 pub mod ShunterHistories
 pub mod ShunterExamples
 pub mod ShunterSums
+pub mod ShunterGoings

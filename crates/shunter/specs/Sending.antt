@@ -1,25 +1,24 @@
 -- Only private contracts use what stands here: an accepted step as the code carries it out.
--- Defines: outward, still_held, first_request, joiner_of, line_after, sent_with, line_for, sent_own, Fits, Good, tallying.
-use Rattle.std.specs.Prelude.{ℕ, ◌+◌, ◌-◌, ◌≤◌, ◌≡◌, Bool, false, cond, ◌&&◌, not, List, ◌++◌, eqb, length}
+-- Defines: outward, still_held, first_request, joiner_of, line_after, sent_with, line_for, sent_own, Fits, Good, AnsweredOn.
+use Rattle.std.specs.Prelude.{ℕ, ◌-◌, ◌≤◌, ◌≡◌, Bool, false, cond, ◌&&◌, not, List, ◌++◌, eqb, length}
 use Rattle.std.specs.Prelude.{take}
 use Rattle.wire.specs.Refusals.{accepted}
 use Rattle.record.specs.declared.partner.Partner.{Partner}
 use Rattle.place.specs.Places.{is_free, partner_of}
 use Rattle.place.specs.Table.{request, release}
 use Rattle.place.specs.declared.place.Place.{Place}
-use Rattle.unit.specs.Forms.{most_actions}
+use Rattle.unit.specs.Forms.{most_actions, packed}
 use Rattle.unit.specs.Standings.{Concern, nobody, order_to, call_of, naming}
 use Rattle.unit.specs.States.{first, nowhere}
 use Rattle.unit.specs.Steps.{Outcome, act}
 use Rattle.unit.specs.declared.answer.Action.{Action}
+use Rattle.unit.specs.declared.answer.Answer.{Answer}
 use Rattle.unit.specs.declared.state.State.{State}
 use Rattle.shunter.specs.Queues.{modem_count, no_place, somebody, waiting, queued, place_at}
 use Rattle.shunter.specs.Shunting.{Shunting, kept, waits_for, newcomers, served}
-use Rattle.shunter.specs.Shunting.{unserved, first_requests, sends, is_call_of, all_held, stirs_waiting}
-use Rattle.unit.specs.Runs.{totalled}
-use Rattle.shunter.specs.declared.state.Shunter.{Shunter}
+use Rattle.shunter.specs.Shunting.{unserved, first_requests, sends, is_call_of, all_held, stirs_waiting, on_concern, shunted}
 use Rattle.shunter.specs.declared.answer.Shunted.{Shunted}
-use Rattle.shunter.specs.declared.run.ShunterTally.{ShunterTally}
+use Rattle.shunter.specs.declared.state.Shunter.{Shunter}
 
 -- the actions but the releases of partners that wait
 abbrev pub outward : (Partner → Bool) → List Action → List Action
@@ -76,13 +75,6 @@ Good h c o =
     → o.code ≡ accepted
     → (sends h c o ≡ sent_own h c o) × Fits (sent_own h c o) (line_for h c o))
 
--- a run with one record more, of an answer as the code holds it
-unfoldable pub tallying : ShunterTally → ℕ → Shunted → ShunterTally
-tallying t k o =
-    record {
-      shunter = o.shunter;
-      offset = t.offset + k;
-      read = t.read + 1;
-      refused = t.refused + cond (eqb o.code accepted) 0 1;
-      totals = totalled t.totals (take o.actions.count o.actions.items);
-    }
+-- what the code answers to an event, of the core's answer to it
+abbrev pub AnsweredOn : Shunter → Concern → Answer → Shunted → Type 0
+AnsweredOn h c answer result = (o : Outcome) → answer ≡ packed o → Good h c o → result ≡ shunted (on_concern h c o)

@@ -41,6 +41,7 @@ pub(crate) fn nowhere() -> Standing
 }
 
 // No action.
+#[tactic(auto, unfolding(unit::specs::Forms::listed))]
 pub(crate) fn silence() -> Actions
     ensures { result ≡ listed [] }
 {
@@ -76,6 +77,7 @@ pub(crate) fn with_action(actions: Actions, action: Action) -> Actions
 
 impl Shunted {
     // A refusal: the state as given, no action.
+    #[tactic(auto, unfolding(crate::specs::Shunting::shunted))]
     pub(crate) fn refused(code: u8, standing: Standing, shunter: Shunter) -> Shunted
         ensures { result ≡ shunted (shunt_refused_at code standing shunter) }
     {

@@ -9,7 +9,7 @@ use crate::answer::{Sent, nowhere};
 use crate::state::Shunter;
 use unit::answer::{Action, Actions};
 use unit::bytes::{ACTION_ROOM, ACTION_SIZE};
-use wire::refusal::NO_ROOM;
+use wire::refusal::Refusal;
 
 // Writes an action's five bytes.
 fn put(s: &mut [u8], at: usize, action: Action)
@@ -29,11 +29,8 @@ fn write(s: &mut [u8], actions: Actions)
     requires { (actions.count ≤ most_actions) × (action_room ≤ length s.old) }
     ensures { s.new ≡ written (take actions.count actions.items) s.old }
 {
-    let count = actions.count;
-    let mut i = 0;
-    while i < count {
+    for i in 0..actions.count {
         put(s, ACTION_SIZE * i, actions.items[i]);
-        i += 1;
     }
 }
 
@@ -46,22 +43,19 @@ impl Shunter {
     {
         if actions.len() < ACTION_ROOM {
             return Sent {
-                code: NO_ROOM,
+                code: Refusal::NoRoom.number(),
                 shunter: self,
                 count: 0,
                 standing: nowhere(),
             };
         }
         let shunted = self.apply(bytes);
-        let out = shunted.actions;
-        let shunter = shunted.shunter;
-        let standing = shunted.standing;
-        write(actions, out);
+        write(actions, shunted.actions);
         Sent {
             code: shunted.code,
-            shunter,
-            count: out.count,
-            standing,
+            shunter: shunted.shunter,
+            count: shunted.actions.count,
+            standing: shunted.standing,
         }
     }
 }

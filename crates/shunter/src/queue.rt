@@ -2,8 +2,6 @@
 ghost use Rattle.std.specs.Prelude.{◌≡◌, true, [], ◌++◌, ◌<◌, ◌≤◌, length};
 ghost use Rattle.shunter.specs.Queues.{modem_count, no_place, somebody, waiting, queued, in_order, among};
 
-use wire::join::or;
-
 // Two modems.
 pub const MODEMS: usize = 2;
 
@@ -19,6 +17,7 @@ pub struct Queue {
 
 impl Queue {
     // Nobody waits.
+    #[tactic(auto, unfolding(crate::specs::Queues::queued))]
     pub(crate) fn none() -> Queue
         ensures { result ≡ queued [] }
     {
@@ -32,11 +31,7 @@ impl Queue {
     pub(crate) fn in_order(self) -> bool
         ensures { result ≡ in_order self }
     {
-        if self.first == NO_PLACE {
-            self.second == NO_PLACE
-        } else {
-            true
-        }
+        (self.first != NO_PLACE) | (self.second == NO_PLACE)
     }
 
     // Whether this place waits.
@@ -44,7 +39,7 @@ impl Queue {
         requires { place < no_place }
         ensures { result ≡ among place (waiting self) }
     {
-        or(place == self.first, place == self.second)
+        (place == self.first) | (place == self.second)
     }
 
     // The queue with one more at its end; 4 is nobody.

@@ -15,15 +15,15 @@ pub struct Fitted {
 }
 
 // The box's cold start with nobody waiting; refusal 13 as there, with the box of a refused cold start.
+#[tactic(auto, unfolding(crate::specs::Queues::cold_shunter))]
 pub fn fit(limits: Limits) -> Fitted
     ensures { result ≡ cold_shunter limits }
 {
     let started = cold_start(limits);
-    let state = started.state;
     Fitted {
         code: started.code,
         shunter: Shunter {
-            state,
+            state: started.state,
             queue: Queue::none(),
         },
     }

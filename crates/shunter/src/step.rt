@@ -8,19 +8,18 @@ ghost use Rattle.unit.specs.Steps.{Outcome};
 ghost use Rattle.shunter.specs.Queues.{modem_count, waiting, queued, in_order};
 ghost use Rattle.shunter.specs.Shunting.{waits_for, newcomers, first_requests, is_call_of, all_held, up_lost_timeout, stirs_waiting};
 ghost use Rattle.shunter.specs.Shunting.{on_concern, applying, shunted};
-ghost use Rattle.shunter.specs.Sending.{outward, still_held, first_request, joiner_of, line_after, sent_with, Fits, Good};
+ghost use Rattle.shunter.specs.Sending.{outward, still_held, first_request, joiner_of, line_after, sent_with, AnsweredOn, Fits, Good};
 
 use crate::answer::{Shunted, nowhere, silence, with_action};
 use crate::queue::{MODEMS, NO_PLACE, Queue};
-use crate::state::{Shunter, lowest_free, modems, place_at, rules_hold};
+use crate::state::{Shunter, lowest_free, place_at};
 use place::action::{RELEASE, REQUEST};
-use record::event::{Event, PartnerEvent, Reading};
+use record::event::{Event, PartnerEvent};
 use record::partner::Partner;
 use record::read::read;
-use unit::answer::{Action, Actions, Answer};
+use unit::answer::{Action, Actions, Answer, MOST_ACTIONS};
 use unit::state::State;
-use wire::join::and;
-use wire::refusal::{ACCEPTED, NOT_SOUND};
+use wire::refusal::{ACCEPTED, Refusal};
 
 // A 38 that the core would accept, and no modem free.
 pub const MODEM_MISSING: u8 = 17;
@@ -39,18 +38,20 @@ struct Served {
 fn still_held(next: State, at: usize) -> usize
     ensures { result ≡ still_held next.places at }
 {
-    let place = place_at(next, at);
-    if place.is_free() { NO_PLACE } else { at }
+    if place_at(next, at).is_free() {
+        NO_PLACE
+    } else {
+        at
+    }
 }
 
 // The first request of a place.
 fn first_request(next: State, at: usize) -> Action
     ensures { result ≡ first_request next.places at }
 {
-    let place = place_at(next, at);
     Action {
         number: REQUEST,
-        partner: place.partner(),
+        partner: place_at(next, at).partner(),
     }
 }
 
@@ -63,15 +64,8 @@ fn serve(next: State, out: Actions, line: Queue, free: usize) -> Served
         → (result.actions ≡ listed (acts ++ first_requests next.places (take free (waiting line))))
         × (result.queue ≡ queued (drop free (waiting line))) }
 {
-    let first = line.first;
-    let second = line.second;
-    if free == 0 {
-        return Served {
-            actions: out,
-            queue: line,
-        };
-    }
-    if first == NO_PLACE {
+    let Queue { first, second } = line;
+    if free == 0 || first == NO_PLACE {
         return Served {
             actions: out,
             queue: line,
@@ -102,21 +96,14 @@ fn serve(next: State, out: Actions, line: Queue, free: usize) -> Served
 impl Shunter {
     // The first so many of these actions, but the releases of partners that wait.
     fn outward(self, actions: Actions, count: usize) -> Actions
-        requires { count ≤ most_actions }
         ensures { result ≡ listed (outward (waits_for self.state.places (waiting self.queue)) (take count actions.items)) }
     {
         let mut out = silence();
-        let mut i = 0;
-        while i < count {
-            let action = actions.items[i];
-            let release = action.number == RELEASE;
-            let waits = self.waits(action.partner);
-            if and(waits, release) {
-                i += 1;
-            } else {
-                out = with_action(out, action);
-                i += 1;
+        for action in &actions.items[..count.min(MOST_ACTIONS)] {
+            if self.waits(action.partner) & (action.number == RELEASE) {
+                continue;
             }
+            out = with_action(out, *action);
         }
         out
     }
@@ -134,52 +121,42 @@ impl Shunter {
 
     // An accepted step, of the first so many of the core's actions.
     fn send(self, next: State, actions: Actions, count: usize, joiner: usize) -> Shunted
-        requires { count ≤ most_actions }
         ensures { Fits (sent_with self next (take count actions.items) (line_after (waiting self.queue) next.places joiner))
             (line_after (waiting self.queue) next.places joiner)
             → result ≡ shunted (sent_with self next (take count actions.items)
             (line_after (waiting self.queue) next.places joiner)) }
     {
-        let line = self.line(next, joiner);
-        let held = modems(next, line);
-        let free = if held < MODEMS { MODEMS - held } else { 0 };
-        let served = serve(next, self.outward(actions, count), line, free);
-        let sent = served.actions;
-        let queue = served.queue;
+        let lined = Shunter {
+            state: next,
+            queue: self.line(next, joiner),
+        };
+        let free = MODEMS.saturating_sub(lined.modems());
+        let served = serve(next, self.outward(actions, count), lined.queue, free);
         Shunted {
             code: ACCEPTED,
-            shunter: Shunter { state: next, queue },
-            actions: sent,
+            shunter: Shunter {
+                state: next,
+                queue: served.queue,
+            },
+            actions: served.actions,
             standing: nowhere(),
         }
     }
-}
-
-// One less; 0 where there is none.
-fn less_one(count: usize) -> usize
-    ensures { result ≡ count - 1 }
-{
-    if count == 0 { 0 } else { count - 1 }
 }
 
 // Up, lost or timeout.
 fn stirring(event: PartnerEvent) -> bool
     ensures { result ≡ up_lost_timeout event }
 {
-    match event {
-        PartnerEvent::Drop => false,
-        PartnerEvent::Up => true,
-        PartnerEvent::Loss => true,
-        PartnerEvent::Timeout => true,
-        PartnerEvent::Version(_) => false,
-        PartnerEvent::Ended => false,
-    }
+    matches!(
+        event,
+        PartnerEvent::Up | PartnerEvent::Loss | PartnerEvent::Timeout
+    )
 }
 
 impl Shunter {
     // The core's refusal, or the accepted step of the first so many of its actions.
     fn answered(self, answer: Answer, count: usize, joiner: usize) -> Shunted
-        requires { count ≤ most_actions }
         ensures { (c : Concern) (o : Outcome)
             → answer ≡ packed o
             → stirs_waiting self c ≡ false
@@ -189,100 +166,63 @@ impl Shunter {
             → Good self c o
             → result ≡ shunted (on_concern self c o) }
     {
-        let code = answer.code;
-        let standing = answer.standing;
-        let next = answer.state;
-        let actions = answer.actions;
-        if code == ACCEPTED {
-            self.send(next, actions, count, joiner)
+        if answer.code == ACCEPTED {
+            self.send(answer.state, answer.actions, count, joiner)
         } else {
-            Shunted::refused(code, standing, self)
+            Shunted::refused(answer.code, answer.standing, self)
         }
     }
 
     // The core's answer to an order.
     fn ordered(self, answer: Answer) -> Shunted
-        requires { answer.actions.count ≤ most_actions }
-        ensures { (p : Partner) (o : Outcome)
-            → answer ≡ packed o
-            → Good self (order_to p) o
-            → result ≡ shunted (on_concern self (order_to p) o) }
+        ensures { (p : Partner) → AnsweredOn self (order_to p) answer result }
     {
-        let state = self.state;
-        let actions = answer.actions;
-        self.answered(answer, less_one(actions.count), lowest_free(state))
+        let own = answer.actions.count.saturating_sub(1);
+        self.answered(answer, own, lowest_free(self.state))
     }
 
     // The core's answer to a call: 17 where it would accept it and no modem is free.
     fn called(self, answer: Answer) -> Shunted
-        requires { answer.actions.count ≤ most_actions }
-        ensures { (p : Partner) (o : Outcome)
-            → answer ≡ packed o
-            → Good self (call_of p) o
-            → result ≡ shunted (on_concern self (call_of p) o) }
+        ensures { (p : Partner) → AnsweredOn self (call_of p) answer result }
     {
-        let state = self.state;
-        let queue = self.queue;
-        let actions = answer.actions;
-        if and(answer.code == ACCEPTED, MODEMS <= modems(state, queue)) {
+        if (answer.code == ACCEPTED) & (MODEMS <= self.modems()) {
             Shunted::refused(MODEM_MISSING, nowhere(), self)
         } else {
-            self.answered(answer, actions.count, NO_PLACE)
+            self.answered(answer, answer.actions.count, NO_PLACE)
         }
     }
 
     // The core's answer to another event that names a partner: 18 for up, lost or timeout of one that waits.
     fn named(self, answer: Answer, partner: Partner, event: PartnerEvent) -> Shunted
-        requires { answer.actions.count ≤ most_actions }
-        ensures { (o : Outcome)
-            → answer ≡ packed o
-            → Good self (naming partner event) o
-            → result ≡ shunted (on_concern self (naming partner event) o) }
+        ensures { AnsweredOn self (naming partner event) answer result }
     {
-        let actions = answer.actions;
-        if and(self.waits(partner), stirring(event)) {
+        if self.waits(partner) & stirring(event) {
             Shunted::refused(PLACE_WAITS, nowhere(), self)
         } else {
-            self.answered(answer, actions.count, NO_PLACE)
+            self.answered(answer, answer.actions.count, NO_PLACE)
         }
     }
 
     // The core's answer where nobody is named.
     fn noted(self, answer: Answer) -> Shunted
-        requires { answer.actions.count ≤ most_actions }
-        ensures { (o : Outcome)
-            → answer ≡ packed o
-            → Good self nobody o
-            → result ≡ shunted (on_concern self nobody o) }
+        ensures { AnsweredOn self nobody answer result }
     {
-        let actions = answer.actions;
-        self.answered(answer, actions.count, NO_PLACE)
+        self.answered(answer, answer.actions.count, NO_PLACE)
     }
 
     // The core's answer to an event.
     fn on_event(self, answer: Answer, event: Event) -> Shunted
-        requires { answer.actions.count ≤ most_actions }
-        ensures { (o : Outcome)
-            → answer ≡ packed o
-            → Good self (concern self.state.last event) o
-            → result ≡ shunted (on_concern self (concern self.state.last event) o) }
+        ensures { AnsweredOn self (concern self.state.last event) answer result }
     {
         match event {
-            Event::Level {
-                level: _,
-                manual: _,
-            } => self.noted(answer),
-            Event::Mission { mission: _ } => self.noted(answer),
-            Event::Mode => self.noted(answer),
-            Event::Hole { entered: _ } => self.noted(answer),
-            Event::Order {
-                partner: _,
-                accepting: _,
-                cause: _,
-            } => self.ordered(answer),
-            Event::EndAll => self.noted(answer),
-            Event::Call { partner: _ } => self.called(answer),
+            Event::Order { .. } => self.ordered(answer),
+            Event::Call { .. } => self.called(answer),
             Event::Named { partner, event } => self.named(answer, partner, event),
+            Event::Level { .. }
+            | Event::Mission { .. }
+            | Event::Mode
+            | Event::Hole { .. }
+            | Event::EndAll => self.noted(answer),
         }
     }
 
@@ -290,19 +230,16 @@ impl Shunter {
     pub fn apply(self, bytes: &[u8]) -> Shunted
         ensures { result ≡ shunted (applying self bytes.now) }
     {
-        let state = self.state;
-        let queue = self.queue;
-        if rules_hold(state, queue) {
-            let answer = state.apply(bytes);
-            if answer.code == NOT_SOUND {
-                return Shunted::refused(NOT_SOUND, nowhere(), self);
-            }
-            match read(bytes) {
-                Reading::Meant(event) => self.on_event(answer, event),
-                Reading::Refused(_) => self.noted(answer),
-            }
-        } else {
-            Shunted::refused(NOT_SOUND, nowhere(), self)
+        if !self.rules_hold() {
+            return Shunted::refused(Refusal::NotSound.number(), nowhere(), self);
+        }
+        let answer = self.state.apply(bytes);
+        if answer.code == Refusal::NotSound.number() {
+            return Shunted::refused(answer.code, nowhere(), self);
+        }
+        match read(bytes) {
+            Ok(event) => self.on_event(answer, event),
+            Err(_) => self.noted(answer),
         }
     }
 }

@@ -4,10 +4,7 @@ use std::{fs, io, str};
 
 // The text of a name; one that is no text names no file that the library can open.
 fn text_of(name: &[u8]) -> io::Result<&str> {
-    match str::from_utf8(name) {
-        Ok(text) => Ok(text),
-        Err(_) => Err(io::Error::from(io::ErrorKind::InvalidFilename)),
-    }
+    str::from_utf8(name).map_err(|_| io::Error::from(io::ErrorKind::InvalidFilename))
 }
 
 // Opens a file to read it.

@@ -68,12 +68,14 @@ pub fn fail<P: Print>(out: &P, what: &[u8], error: io::Error) -> io::Result<()> 
     out.write_all(b"\n")
 }
 
-// The text of an error up to the number that the library puts behind it, or to the zeros that follow it.
+// What the library puts behind the words for an error, before its number.
+const NUMBERED: &[u8] = b" (os error ";
+
+// The text of an error up to its number, or to the zeros that follow it.
 fn words_of(text: &[u8]) -> &[u8] {
-    for i in 0..text.len() {
-        if text[i] == 0 || text[i..].starts_with(b" (os error ") {
-            return &text[..i];
-        }
-    }
-    text
+    let told = text.split(|byte| *byte == 0).next().unwrap_or(text);
+    let words = told
+        .windows(NUMBERED.len())
+        .position(|behind| behind == NUMBERED);
+    words.and_then(|end| told.get(..end)).unwrap_or(told)
 }

@@ -8,8 +8,8 @@ use Prim.Native.Nat.{ℕ, ◌+◌, ◌-◌, ◌≤◌, ◌<◌}
 use native.Mathlib.Omega.{arith}
 use lib.ListN.{length, take, drop}
 use Rattle.record.specs.Takes.{take_one}
-use Rattle.record.specs.declared.event.Reading.{Reading}
-use Rattle.record.specs.declared.take.Taken.TheVariants.{Whole, Stopped, Refused}
+use Rattle.record.specs.Readings.{Reading}
+use Rattle.record.specs.Takes.{Whole, Stopped, Overlong}
 use Rattle.text.specs.Texts.{end_text}
 use Rattle.text.specs.Making.{put_at}
 use Rattle.text.specs.Sheets.{most_input}
@@ -31,7 +31,7 @@ module _ (input : List ℕ) (short : length input ≤ most_input) (buffer₀ : L
 
   -- at a stop the last line is left
   pub end-left : (stop : ℕ)
-      → (take_one (drop p.at input) ≡ Stopped stop) ⊎ (take_one (drop p.at input) ≡ Refused stop)
+      → (take_one (drop p.at input) ≡ Stopped stop) ⊎ (take_one (drop p.at input) ≡ Overlong stop)
       → Putting (to_come p₀ input) p₀.used buffer₀ (end_text stop p.number) p.used buffer
   end-left stop e = subst Left (to-come-stop p input short so_far.1 stop e) so_far.2
 

@@ -9,6 +9,7 @@ use native.Mathlib.Omega.{arith}
 use lib.Dec.{ltb}
 use lib.ListN.{length, length-append}
 use borrow.Author.Tests.{lt-ltb, le-ltb}
+use Rattle.std.proofs.Math.Nat.{one-le-pow}
 use Rattle.wire.proofs.Tests.{cond-holds}
 use Rattle.text.specs.Texts.{digit_zero, digits, decimal}
 
@@ -40,16 +41,14 @@ decimal-more n large small =
 
 -- from a power of ten to the next
 pub decimal-long : (k n : ℕ)
-    → 10 ^ suc k ≤ n
-    → n < 10 ^ suc (suc k)
+    → 10 ^ k ≤ n
+    → n < 10 * 10 ^ k
     → n < 10_000_000_000
-    → length (decimal n) ≡ suc (suc k)
-decimal-long zero n least most small =
-    let rest = ap length (decimal-one (n / 10) (omega arith)) in
-    ap length (decimal-more n least small) ∙ length-append (decimal (n / 10)) _ ∙ omega arith
+    → length (decimal n) ≡ k + 1
+decimal-long zero n least most small = ap length (decimal-one n (omega arith))
 decimal-long (suc k) n least most small =
-    let power : 10 ^ suc (suc k) ≡ 10 ^ suc k * 10 = pow-suc 10 (suc k) in
-    let next : 10 ^ suc (suc (suc k)) ≡ 10 ^ suc (suc k) * 10 = pow-suc 10 (suc (suc k)) in
+    let power : 10 ^ suc k ≡ 10 ^ k * 10 = pow-suc 10 k in
+    let some : 1 ≤ 10 ^ k = one-le-pow k 10 (omega arith) in
     let rest = decimal-long k (n / 10) (omega arith) (omega arith) (omega arith) in
     ap length (decimal-more n (omega arith) small) ∙ length-append (decimal (n / 10)) _ ∙ omega arith
 

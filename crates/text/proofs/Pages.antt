@@ -14,8 +14,8 @@ use Rattle.record.specs.Takes.{nothing_left, longest_log, take_one}
 use Rattle.unit.specs.Runs.{stops, applies, course}
 use Rattle.unit.specs.declared.answer.Answer.{Answer}
 use Rattle.unit.specs.declared.state.State.{State}
-use Rattle.record.specs.declared.event.Reading.{Reading}
-use Rattle.record.specs.declared.take.Taken.TheVariants.{Whole, Stopped, Refused}
+use Rattle.record.specs.Readings.{Reading}
+use Rattle.record.specs.Takes.{Whole, Stopped, Overlong}
 use Rattle.unit.proofs.Few.{on_record-few}
 use Rattle.unit.proofs.Written.{listed-take}
 use Rattle.record.proofs.Takes.{taken-short}
@@ -52,7 +52,7 @@ module _ (p : Page) (bytes : List ℕ) (answer : Answer) (made : answer ≡ pack
 course-stop : (budget : ℕ) (s : State) (rest : List ℕ) (stop : ℕ)
     → length rest ≤ budget
     → length rest ≤ longest_log
-    → (take_one rest ≡ Stopped stop) ⊎ (take_one rest ≡ Refused stop)
+    → (take_one rest ≡ Stopped stop) ⊎ (take_one rest ≡ Overlong stop)
     → course budget s rest ≡ stops stop
 unfolding course take_one
 course-stop zero s [] stop few small (inl e) = let same : nothing_left ≡ stop = cc in ap stops same
@@ -96,7 +96,7 @@ module _ (p : Page) (input : List ℕ) (short : length input ≤ most_input) (co
 
   -- at a stop the last line is to come
   pub to-come-stop : (stop : ℕ)
-      → (take_one (drop p.at input) ≡ Stopped stop) ⊎ (take_one (drop p.at input) ≡ Refused stop)
+      → (take_one (drop p.at input) ≡ Stopped stop) ⊎ (take_one (drop p.at input) ≡ Overlong stop)
       → to_come p input ≡ end_text stop p.number
   unfolding to_come course_text rest
   to-come-stop stop e =

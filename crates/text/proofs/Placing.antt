@@ -14,7 +14,8 @@ use Rattle.text.specs.Sheets.{header_text, too_long_text, most_input, sheet_limi
 use Rattle.text.specs.Pages.{to_come}
 use Rattle.text.specs.declared.sheet.Page.{Page}
 use Rattle.text.proofs.Sheets.{sheet-fits}
-use Rattle.text.proofs.Putting.{Put, Putting, put_front, putting-start, putting-next, putting-last}
+use Rattle.text.specs.Making.{Put}
+use Rattle.text.proofs.Putting.{Putting, put_front, putting-start, putting-next, putting-last}
 
 -- a sheet before its first line
 abbrev first : State → ℕ → Page

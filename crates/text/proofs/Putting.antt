@@ -1,5 +1,5 @@
 -- A text put at a place of a buffer: what stands before and after it stays; and what is left to put while a text is put part by part.
--- Defines: Put, Putting.
+-- Defines: Putting.
 -- Proves: put-length, put-more, put_front, put-none, put_last, put_byte, putting-start, putting-room, putting-next, putting-last,
 -- putting-none.
 use mathlib.Core.Path.{◌≡◌, refl, sym, ap, ap₂, ◌∙◌}
@@ -11,7 +11,7 @@ use lib.ListN.{length, take, drop, set, length-append, length-drop, length-set, 
 use lib.Seq.{take_at, drop_at, drop-drop, drop-cons, length-take-le, take-set-le, drop-set-lt, get_or-set_same}
 use borrow.Author.Tests.{le-leb}
 use Rattle.text.specs.Texts.{placed}
-use Rattle.text.specs.Making.{put_at}
+use Rattle.text.specs.Making.{put_at, Put}
 
 module _ (text buffer : List ℕ) (at : ℕ) (room : at + length text ≤ length buffer) where
   front : List ℕ
@@ -84,10 +84,6 @@ pub put_byte : (buffer : List ℕ) (at b : ℕ) → at < length buffer → set b
 put_byte buffer at b below =
     let here : at ≡ at + 0 = omega arith in
     ap (λ n. set buffer n b) here ∙ sym (put-none at (set buffer (at + 0) b)) ∙ put_last [] buffer at b (omega arith)
-
--- the place after a text, and the buffer with it
-abbrev pub Put : List ℕ → ℕ → List ℕ → ℕ → List ℕ → Type 0
-Put text at buffer next after = (next ≡ at + length text) × (after ≡ put_at text at buffer)
 
 -- what is left of a text while it is put: it has room, ends where the whole ends, and makes the same buffer
 abbrev pub Putting : List ℕ → ℕ → List ℕ → List ℕ → ℕ → List ℕ → Type 0

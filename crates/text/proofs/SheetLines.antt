@@ -10,9 +10,9 @@ use lib.Seq.{get_or-take, get_or-drop}
 use Rattle.wire.specs.Bytes.{byte}
 use Rattle.record.specs.Takes.{taken}
 use Rattle.record.specs.TakeWords.{TakenOk}
-use Rattle.record.specs.declared.event.Reading.{Reading}
-use Rattle.record.specs.declared.take.Taken.{Taken}
-use Rattle.record.specs.declared.take.Taken.TheVariants.{Whole, Stopped, Refused}
+use Rattle.record.specs.Readings.{Reading}
+use Rattle.record.specs.Takes.{Taken}
+use Rattle.record.specs.Takes.{Whole, Stopped, Overlong}
 use Rattle.record.proofs.Takes.{taken-ok}
 use Rattle.unit.specs.States.{sound, cold_start}
 use Rattle.unit.specs.Steps.{Outcome}
@@ -116,7 +116,7 @@ line-at (suc b) i t log d = by (taken log) refl i (λ j u rest. line-at b j u re
         → ((j : ℕ) (u : Tally) (rest : List ℕ) → Told u rest d j (course b u.state rest))
         → Told t log d i (course (suc b) t.state log)
     by (Stopped stop) e i then = rw e (λ below. absurd (omega arith))
-    by (Refused r) e i then = rw e (λ below. absurd (omega arith))
+    by (Overlong r) e i then = rw e (λ below. absurd (omega arith))
     by (Whole k r) e zero then = subst (Told t log d 0) (sym (is-applies b t log k r e)) (λ below. line-here b t log k r e d)
     by (Whole k r) e (suc i) then =
         subst (Told t log d (suc i)) (sym (is-applies b t log k r e))

@@ -21,8 +21,8 @@ use Rattle.unit.specs.OnRecords.{action_room, on_record}
 use Rattle.record.specs.Takes.{take_one, taken}
 use Rattle.unit.specs.Runs.{course}
 use Rattle.unit.specs.declared.state.State.{State}
-use Rattle.record.specs.declared.take.Taken.{Taken}
-use Rattle.record.specs.declared.take.Taken.TheVariants.{Whole, Stopped, Refused}
+use Rattle.record.specs.Takes.{Taken}
+use Rattle.record.specs.Takes.{Whole, Stopped, Overlong}
 use Rattle.unit.proofs.Few.{on_record-few}
 use Rattle.text.specs.Texts.{digits, decimal, action_text, line_text, end_text, placed}
 use Rattle.text.specs.Sheets.{header_text, too_long_text, most_input, sheet_limits, sheet_budget, course_text, sheet_text}
@@ -43,7 +43,7 @@ course-fits (suc budget) s log read = by (taken log) (course-fits budget) refl
         → taken log ≡ t
         → length (course_text read (course (suc budget) s log)) ≤ text_room * suc (suc budget)
     by (Stopped stop) rest-fits e = rw e (omega (arith, end-room stop read))
-    by (Refused r) rest-fits e = rw e (omega (arith, end-room r read))
+    by (Overlong r) rest-fits e = rw e (omega (arith, end-room r read))
     by (Whole k r) rest-fits e =
         let o = on_record s (take k log) action_room in
         let line-fits = line-room (read + 1) (byte (take k log) 0) o.code o.actions (on_record-few s (take k log) action_room) in

@@ -7,6 +7,7 @@ use Rattle.unit.specs.Steps.{Outcome}
 use Rattle.unit.specs.OnRecords.{action_room, on_record}
 use Rattle.unit.specs.Runs.{course}
 use Rattle.text.specs.Texts.{line_text}
+use Rattle.text.specs.Making.{HasRoom}
 use Rattle.text.specs.Sheets.{most_input, sheet_budget, course_text}
 
 -- what a record gives, its line, and the sheet with it
@@ -35,11 +36,11 @@ Ready p input buffer =
     (p.at ≤ length input)
     × (length input ≤ most_input)
     × (p.number ≤ p.at)
-    × (p.used + length (to_come p input) ≤ length buffer)
+    × HasRoom (to_come p input) p.used buffer
 
 -- the line of one more record has room
 abbrev pub Follows : Page → List ℕ → List ℕ → Type 0
 Follows p bytes buffer =
     (p.at + length bytes ≤ most_input)
     × (p.number ≤ p.at)
-    × (p.used + length (next_line p bytes) ≤ length buffer)
+    × HasRoom (next_line p bytes) p.used buffer

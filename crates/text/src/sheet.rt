@@ -1,13 +1,15 @@
 // A whole sheet: the log run once, a line put for each record as it is applied.
-ghost use Rattle.std.specs.Prelude.{◌≡◌, ◌+◌, ◌≤◌, length};
+ghost use Rattle.std.specs.Prelude.{◌≡◌, ◌+◌, length};
+ghost use Rattle.record.specs.Stops.{stop_number};
 ghost use Rattle.text.specs.Texts.{end_text};
 ghost use Rattle.text.specs.Sheets.{sheet_count, sheet_placed};
-ghost use Rattle.text.specs.Making.{put_at};
+ghost use Rattle.text.specs.Making.{put_at, HasRoom, Put};
 ghost use Rattle.text.specs.Pages.{next_line, next_page, to_come, Ready, Follows};
 
 use crate::{put_end, put_line, put_words};
 use place::limits::{FLEET_TRIES, Limits};
-use record::take::{Taken, take_one};
+use record::stop::Stop;
+use record::take::{Front, front_at};
 use unit::start::cold_start;
 use unit::state::State;
 use wire::byte::byte_at;
@@ -56,13 +58,11 @@ impl Page {
     }
 
     // The last line; answers how long the sheet is.
-    fn end(self, stop: u8, buffer: &mut [u8]) -> usize
-        requires { self.used + length (end_text stop self.number) ≤ length buffer.old }
-        ensures { (result ≡ self.used + length (end_text stop self.number))
-            × (buffer.new
-            ≡ put_at (end_text stop self.number) self.used buffer.old) }
+    fn end(self, stop: Stop, buffer: &mut [u8]) -> usize
+        requires { HasRoom (end_text (stop_number stop) self.number) self.used buffer.old }
+        ensures { Put (end_text (stop_number stop) self.number) self.used buffer.old result buffer.new }
     {
-        put_end(buffer, self.used, stop, self.number)
+        put_end(buffer, self.used, stop.number(), self.number)
     }
 
     // The rest of the sheet, from the record at the offset reached to the last line; answers how long the sheet is.
@@ -70,21 +70,16 @@ impl Page {
     // nothing is left.
     fn fill(self, input: &[u8], buffer: &mut [u8]) -> usize
         requires { Ready self input.now buffer.old }
-        ensures { (result ≡ self.used + length (to_come self input.now))
-            × (buffer.new
-            ≡ put_at (to_come self input.now) self.used buffer.old) }
+        ensures { Put (to_come self input.now) self.used buffer.old result buffer.new }
     {
         let mut page = self;
         loop {
             let at = page.at;
-            match take_one(input, at) {
-                Taken::Stopped(stop) => {
+            match front_at(input, at) {
+                Front::Stop(stop) => {
                     break page.end(stop, buffer);
                 }
-                Taken::Refused(code) => {
-                    break page.end(code, buffer);
-                }
-                Taken::Whole { length, reading: _ } => {
+                Front::Next { length, .. } => {
                     let end = at + length;
                     page = page.next(&input[at..end], buffer);
                 }

@@ -7,6 +7,7 @@ pub mod judged;
 mod log;
 pub mod made;
 pub mod marked;
+mod pieces;
 pub mod shunted;
 mod standing;
 pub mod started;

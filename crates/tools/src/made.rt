@@ -1,37 +1,25 @@
 // What `resheftal produce` says: the sheet that was made of a log, or why none was.
-use crate::log::{put_stopped, stopped_at};
-use crate::started::put_limits;
-use crate::text::{put, put_count};
-use crate::words::put_refused;
+use crate::log::{StopLine, stopped_at};
+use crate::started::Start;
+use crate::text::{Count, put_text};
+use crate::words::RefusalLine;
 use judge::produce::Produced;
 use place::limits::Limits;
 use wire::refusal::ACCEPTED;
 
 // Tells what was made of this log: the sheet's event records and bytes, and the stop; or the refusal. Answers how long the text is.
 pub fn produce_text(limits: Limits, log: &[u8], produced: Produced, out: &mut [u8]) -> usize {
-    let at = put_limits(out, 0, limits);
+    let at = put_text(out, 0, Start(limits));
     if produced.code != ACCEPTED {
-        return put_refused(
-            out,
-            at,
-            produced.code,
-            b": the log, or the sheet made of it, has more than 1048576 bytes\n",
-        );
+        let refused = RefusalLine(produced.code, "the log, or the sheet made of it,");
+        return put_text(out, at, refused);
     }
-    let at = put(out, at, b"made: ");
-    let at = put_count(
-        out,
-        at,
-        produced.records,
-        b" event record, ",
-        b" event records, ",
-    );
-    let at = put_count(out, at, produced.written, b" byte\n", b" bytes\n");
-    put_stopped(
-        out,
-        at,
-        produced.stop,
+    let records = Count(produced.records, "event record", "event records");
+    let bytes = Count(produced.written, "byte", "bytes");
+    let stop = StopLine {
+        stop: produced.stop,
         log,
-        stopped_at(log, produced.records),
-    )
+        offset: stopped_at(log, produced.records),
+    };
+    put_text(out, at, format_args!("made: {records}, {bytes}\n{stop}"))
 }

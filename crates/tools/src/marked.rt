@@ -1,22 +1,26 @@
 // What `resheftal marks` says: marks made of a log, extended, or compared with those of a file.
-use crate::log::put_records;
-use crate::started::put_limits;
-use crate::text::{Told, put, put_count, put_either, put_number, put_numbered};
-use crate::words::put_refused;
-use image::read::same;
+use crate::log::Records;
+use crate::started::Start;
+use crate::text::{Count, Told, put_text};
+use crate::words::RefusalLine;
 use marks::build::Marked;
 use marks::mark::{MARK_EVERY, MARK_SIZE};
 use place::limits::Limits;
 use record::take::LONGEST_LOG;
-use std::num::wrapping_add_usize;
-use wire::byte::byte_at;
-use wire::join::and;
-use wire::refusal::{ACCEPTED, NOT_SOUND};
+use std::fmt;
+use std::fmt::{Display, Formatter};
+use wire::refusal::{ACCEPTED, Refusal};
 
 // The most marks that a log can have, all its records of one byte; and their bytes.
 pub const MOST_MARKS: usize = LONGEST_LOG / MARK_EVERY;
 
 pub const MARKS_ROOM: usize = MOST_MARKS * MARK_SIZE;
+
+// Why a mark leads nowhere.
+pub(crate) const BAD_MARK: &str =
+    " has another kind, an offset past the log, or an image that is not sound\n";
+
+const KEPT: &str = "the file is as it was\n";
 
 // What was told of marks that were to be made: how long the text is, and how many bytes the marks have, 0 of refused ones.
 #[derive(Clone, Copy)]
@@ -26,68 +30,57 @@ pub struct Marking {
 }
 
 fn bytes_of(marks: usize) -> usize {
-    if marks >= MOST_MARKS {
-        return MARKS_ROOM;
-    }
-    marks * MARK_SIZE
+    marks.min(MOST_MARKS) * MARK_SIZE
 }
 
 // The marks that a room holds, so many.
 fn marks_in(room: &[u8], marks: usize) -> &[u8] {
-    let n = bytes_of(marks);
-    if n <= room.len() { &room[0..n] } else { room }
+    room.get(..bytes_of(marks)).unwrap_or(room)
 }
 
 // So many marks, their bytes, and the records of the log that they are of.
-fn put_sum(out: &mut [u8], at: usize, marks: usize, log: &[u8]) -> usize {
-    let at = put_count(out, at, marks, b" mark, ", b" marks, ");
-    let at = put_number(out, at, bytes_of(marks));
-    let at = put(out, at, b" bytes, of ");
-    put_records(out, at, log)
+#[derive(Clone, Copy)]
+struct Sum<'a> {
+    marks: usize,
+    log: &'a [u8],
 }
 
-// Why a mark leads nowhere.
-pub(crate) fn put_bad_mark(out: &mut [u8], at: usize) -> usize {
-    put(
-        out,
-        at,
-        b" has another kind, an offset past the log, or an image that is not sound\n",
-    )
+impl Display for Sum<'_> {
+    fn fmt<W: fmt::Write>(&self, f: &mut Formatter<W>) -> fmt::Result {
+        let marks = Count(self.marks, "mark", "marks");
+        let bytes = bytes_of(self.marks);
+        let records = Records(self.log);
+        write!(f, "{marks}, {bytes} bytes, of {records}")
+    }
 }
 
 // Why no marks were made.
-fn put_unmarked(out: &mut [u8], at: usize, code: u8) -> usize {
-    if code == NOT_SOUND {
-        let at = put_numbered(out, at, b"refused with ", code as usize);
-        let at = put(out, at, b": the last mark");
-        return put_bad_mark(out, at);
+#[derive(Clone, Copy)]
+struct Unmarked(u8);
+
+impl Display for Unmarked {
+    fn fmt<W: fmt::Write>(&self, f: &mut Formatter<W>) -> fmt::Result {
+        let code = self.0;
+        if code == Refusal::NotSound.number() {
+            return write!(f, "refused with {code}: the last mark{BAD_MARK}");
+        }
+        write!(f, "{}", RefusalLine(code, "the log"))
     }
-    put_refused(out, at, code, b": the log has more than 1048576 bytes\n")
-}
-
-fn put_kept(out: &mut [u8], at: usize) -> usize {
-    put(out, at, b"the file is as it was\n")
-}
-
-// The same of a file that is there, and stays.
-fn put_unchanged(out: &mut [u8], at: usize, code: u8) -> usize {
-    let at = put_unmarked(out, at, code);
-    put_kept(out, at)
 }
 
 // Tells of the marks that were made of this log.
 pub fn built_text(limits: Limits, log: &[u8], marked: Marked, out: &mut [u8]) -> Marking {
-    let at = put_limits(out, 0, limits);
-    if marked.code != ACCEPTED {
+    let Marked { code, marks } = marked;
+    let at = put_text(out, 0, Start(limits));
+    if code != ACCEPTED {
         return Marking {
-            length: put_unmarked(out, at, marked.code),
+            length: put_text(out, at, Unmarked(code)),
             bytes: 0,
         };
     }
-    let at = put(out, at, b"made: ");
     Marking {
-        length: put_sum(out, at, marked.marks, log),
-        bytes: bytes_of(marked.marks),
+        length: put_text(out, at, format_args!("made: {}", Sum { marks, log })),
+        bytes: bytes_of(marks),
     }
 }
 
@@ -99,75 +92,56 @@ pub fn extended_text(
     marked: Marked,
     out: &mut [u8],
 ) -> Marking {
-    let at = put_limits(out, 0, limits);
-    if marked.code != ACCEPTED {
+    let Marked { code, marks } = marked;
+    let at = put_text(out, 0, Start(limits));
+    if code != ACCEPTED {
         return Marking {
-            length: put_unchanged(out, at, marked.code),
+            length: put_text(out, at, format_args!("{}{KEPT}", Unmarked(code))),
             bytes: 0,
         };
     }
-    let at = put(out, at, b"extended: ");
-    let at = put_count(
-        out,
-        at,
-        held,
-        b" mark was there, and now there are ",
-        b" marks were there, and now there are ",
-    );
+    let before = Count(held, "mark was", "marks were");
+    let sum = Sum { marks, log };
+    let text = format_args!("extended: {before} there, and now there are {sum}");
     Marking {
-        length: put_sum(out, at, marked.marks, log),
-        bytes: bytes_of(marked.marks),
+        length: put_text(out, at, text),
+        bytes: bytes_of(marks),
     }
 }
 
-// What a file of marks has that is no whole mark.
-fn put_odd(out: &mut [u8], at: usize, bytes: usize) -> usize {
-    if bytes == 0 {
-        return at;
-    }
-    let at = put(out, at, b" and ");
-    put_count(out, at, bytes, b" byte", b" bytes")
-}
+// So many bytes of a file as marks, and what is no whole mark.
+#[derive(Clone, Copy)]
+struct Held(usize);
 
-// So many bytes as marks.
-fn put_held(out: &mut [u8], at: usize, bytes: usize) -> usize {
-    if bytes > MARKS_ROOM {
-        return put_numbered(
-            out,
-            at,
-            b"the file has more marks than any log, over ",
-            MOST_MARKS,
-        );
+impl Display for Held {
+    fn fmt<W: fmt::Write>(&self, f: &mut Formatter<W>) -> fmt::Result {
+        let bytes = self.0;
+        if bytes > MARKS_ROOM {
+            return write!(f, "the file has more marks than any log, over {MOST_MARKS}");
+        }
+        let marks = Count(bytes / MARK_SIZE, "mark", "marks");
+        let odd = Count(bytes % MARK_SIZE, "byte", "bytes");
+        write!(f, "the file has {marks}")?;
+        if odd.0 != 0 {
+            write!(f, " and {odd}")?;
+        }
+        Ok(())
     }
-    let at = put(out, at, b"the file has ");
-    let at = put_count(out, at, bytes / MARK_SIZE, b" mark", b" marks");
-    put_odd(out, at, bytes % MARK_SIZE)
 }
 
 // Tells that a file of so many bytes has no whole number of marks, and cannot be extended. Answers how long the text is.
 pub fn odd_text(limits: Limits, bytes: usize, out: &mut [u8]) -> usize {
-    let at = put_limits(out, 0, limits);
-    let at = put_held(out, at, bytes);
-    let at = put_numbered(out, at, b", and each has ", MARK_SIZE);
-    let at = put(out, at, b" bytes: it cannot be extended\n");
-    put_kept(out, at)
+    let start = Start(limits);
+    let held = Held(bytes);
+    let text = format_args!(
+        "{start}{held}, and each has {MARK_SIZE} bytes: it cannot be extended\n{KEPT}"
+    );
+    put_text(out, 0, text)
 }
 
 // Where two rows of bytes first differ; where one ends that is the front of the other.
 fn first_difference(a: &[u8], b: &[u8]) -> usize {
-    let mut i = 0;
-    loop {
-        if i >= a.len() {
-            break i;
-        }
-        if i >= b.len() {
-            break i;
-        }
-        if byte_at(a, i) != byte_at(b, i) {
-            break i;
-        }
-        i += 1;
-    }
+    a.iter().zip(b).take_while(|(x, y)| *x == *y).count()
 }
 
 // The record that a mark stands after, with so many marks before it.
@@ -178,40 +152,37 @@ fn record_of(before: usize) -> usize {
     (before + 1) * MARK_EVERY
 }
 
-// The first mark that differs: the one that has the byte at this offset of the file.
-fn put_difference(out: &mut [u8], at: usize, offset: usize) -> usize {
-    let before = offset / MARK_SIZE;
-    let at = put_numbered(
-        out,
-        at,
-        b"different at mark ",
-        wrapping_add_usize(before, 1),
-    );
-    let at = put_numbered(out, at, b", after record ", record_of(before));
-    let at = put_numbered(out, at, b", at offset ", bytes_of(before));
-    put(out, at, b" of the file\n")
+// The first mark in which a file differs from the marks of the log: the one that has the first other byte; what the file has, and the log
+// gives; and that the marks in the file are the first of the log's, where they are.
+#[derive(Clone, Copy)]
+struct Unlike<'a> {
+    built: &'a [u8],
+    held: &'a [u8],
 }
 
-// That the marks in the file are the first of the log's, where they are.
-fn put_front(out: &mut [u8], at: usize, front: bool) -> usize {
-    put_either(
-        out,
-        at,
-        front,
-        b"the marks in the file are right, and --extend adds the others\n",
-        b"",
-    )
-}
-
-fn put_different(out: &mut [u8], at: usize, built: &[u8], held: &[u8]) -> usize {
-    let offset = first_difference(built, held);
-    let whole = held.len() % MARK_SIZE == 0;
-    let at = put_difference(out, at, offset);
-    let at = put_held(out, at, held.len());
-    let at = put(out, at, b", the log gives ");
-    let at = put_count(out, at, built.len() / MARK_SIZE, b" mark\n", b" marks\n");
-    let at = put_front(out, at, and(whole, offset == held.len()));
-    put_kept(out, at)
+impl Display for Unlike<'_> {
+    fn fmt<W: fmt::Write>(&self, f: &mut Formatter<W>) -> fmt::Result {
+        let Unlike { built, held } = *self;
+        let offset = first_difference(built, held);
+        let before = offset / MARK_SIZE;
+        let mark = before.wrapping_add(1);
+        let record = record_of(before);
+        let at = bytes_of(before);
+        let has = Held(held.len());
+        let gives = Count(built.len() / MARK_SIZE, "mark", "marks");
+        writeln!(
+            f,
+            "different at mark {mark}, after record {record}, at offset {at} of the file"
+        )?;
+        writeln!(f, "{has}, the log gives {gives}")?;
+        if held.len() % MARK_SIZE == 0 && offset == held.len() {
+            writeln!(
+                f,
+                "the marks in the file are right, and --extend adds the others"
+            )?;
+        }
+        write!(f, "{KEPT}")
+    }
 }
 
 // Tells whether a file holds the marks of this log, which were built into a room; if not, where the first difference is.
@@ -223,23 +194,23 @@ pub fn compared_text(
     held: &[u8],
     out: &mut [u8],
 ) -> Told {
-    let at = put_limits(out, 0, limits);
-    if marked.code != ACCEPTED {
+    let Marked { code, marks } = marked;
+    let at = put_text(out, 0, Start(limits));
+    if code != ACCEPTED {
         return Told {
-            length: put_unchanged(out, at, marked.code),
+            length: put_text(out, at, format_args!("{}{KEPT}", Unmarked(code))),
             accepted: false,
         };
     }
-    let built = marks_in(room, marked.marks);
-    if same(built, held) {
-        let at = put(out, at, b"the same: ");
+    let built = marks_in(room, marks);
+    if built == held {
         return Told {
-            length: put_sum(out, at, marked.marks, log),
+            length: put_text(out, at, format_args!("the same: {}", Sum { marks, log })),
             accepted: true,
         };
     }
     Told {
-        length: put_different(out, at, built, held),
+        length: put_text(out, at, Unlike { built, held }),
         accepted: false,
     }
 }

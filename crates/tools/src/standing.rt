@@ -1,15 +1,15 @@
 // What stands in a sheet: how long a record is, its line of bytes and words, and where the last event records begin.
-use crate::text::{put, put_hex, put_numbered};
-use crate::words::{is_action, put_action, put_answer, put_event, put_kind};
+use crate::text::Hex;
+use crate::words::{Answered, Said, Sent, is_action, kind_name};
 use judge::due::{ANSWER_KIND, ANSWER_SIZE};
-use record::event::Reading;
 use record::partner::Partner;
 use record::read::{length_of, read};
-use std::num::wrapping_add_usize;
+use std::fmt;
+use std::fmt::{Display, Formatter};
 use unit::answer::Action;
 use unit::bytes::ACTION_SIZE;
 use wire::byte::byte_at;
-use wire::refusal::UNKNOWN_KIND;
+use wire::refusal::Refusal;
 
 // How long the record is that begins with this byte: an event record, an answer, an action; of an unknown kind the byte alone.
 fn length_by(kind: u8) -> usize {
@@ -19,23 +19,13 @@ fn length_by(kind: u8) -> usize {
     if is_action(kind) {
         return ACTION_SIZE;
     }
-    let length = length_of(kind);
-    if length == 0 {
-        return 1;
-    }
-    length
+    length_of(kind).max(1)
 }
 
 // Where the record at an offset ends; the sheet's end where it is cut off.
 pub(crate) fn end_of(sheet: &[u8], at: usize) -> usize {
     let length = length_by(byte_at(sheet, at));
-    if at >= sheet.len() {
-        return sheet.len();
-    }
-    if length <= sheet.len() - at {
-        return at + length;
-    }
-    sheet.len()
+    at.saturating_add(length).min(sheet.len())
 }
 
 fn action_in(bytes: &[u8]) -> Action {
@@ -51,95 +41,115 @@ fn action_in(bytes: &[u8]) -> Action {
 }
 
 // The record that begins with this byte, where its fields are not told.
-fn put_kind_of(out: &mut [u8], at: usize, kind: u8) -> usize {
-    if kind == ANSWER_KIND {
-        return put(out, at, b"an answer");
-    }
-    if is_action(kind) {
-        return put_numbered(out, at, b"action ", kind as usize);
-    }
-    put_kind(out, at, kind)
-}
+#[derive(Clone, Copy)]
+struct Kind(u8);
 
-// A record of which fewer bytes stand than it has.
-fn put_cut(out: &mut [u8], at: usize, bytes: &[u8]) -> usize {
-    let kind = byte_at(bytes, 0);
-    let at = put_kind_of(out, at, kind);
-    let at = put_numbered(out, at, b", cut off: ", bytes.len());
-    let at = put_numbered(out, at, b" of its ", length_by(kind));
-    put(out, at, b" bytes")
+impl Display for Kind {
+    fn fmt<W: fmt::Write>(&self, f: &mut Formatter<W>) -> fmt::Result {
+        let kind = self.0;
+        if kind == ANSWER_KIND {
+            return write!(f, "an answer");
+        }
+        if is_action(kind) {
+            return write!(f, "action {kind}");
+        }
+        write!(f, "{}", kind_name(kind))
+    }
 }
 
 // A record that means no event, by the refusal of its reading.
-fn put_unread(out: &mut [u8], at: usize, kind: u8, code: u8) -> usize {
-    if code == UNKNOWN_KIND {
-        let at = put_numbered(out, at, b"kind ", kind as usize);
-        return put(out, at, b", which no record of a sheet has");
+fn write_unread<W: fmt::Write>(f: &mut Formatter<W>, kind: u8, refusal: Refusal) -> fmt::Result {
+    if refusal == Refusal::UnknownKind {
+        return write!(f, "kind {kind}, which no record of a sheet has");
     }
-    let at = put_kind(out, at, kind);
-    put(out, at, b", a field is outside its range")
+    write!(f, "{}, a field is outside its range", kind_name(kind))
 }
 
 // A record in words, whole or cut off.
-fn put_record(out: &mut [u8], at: usize, bytes: &[u8]) -> usize {
-    let kind = byte_at(bytes, 0);
-    if bytes.len() < length_by(kind) {
-        return put_cut(out, at, bytes);
-    }
-    if kind == ANSWER_KIND {
-        return put_answer(out, at, byte_at(bytes, 1));
-    }
-    if is_action(kind) {
-        return put_action(out, at, action_in(bytes));
-    }
-    match read(bytes) {
-        Reading::Meant(event) => put_event(out, at, event, byte_at(bytes, 1)),
-        Reading::Refused(code) => put_unread(out, at, kind, code),
+#[derive(Clone, Copy)]
+struct Words<'a>(&'a [u8]);
+
+impl Display for Words<'_> {
+    fn fmt<W: fmt::Write>(&self, f: &mut Formatter<W>) -> fmt::Result {
+        let bytes = self.0;
+        let kind = byte_at(bytes, 0);
+        let length = length_by(kind);
+        if bytes.len() < length {
+            let name = Kind(kind);
+            let stand = bytes.len();
+            return write!(f, "{name}, cut off: {stand} of its {length} bytes");
+        }
+        if kind == ANSWER_KIND {
+            return write!(f, "{}", Answered(byte_at(bytes, 1)));
+        }
+        if is_action(kind) {
+            return write!(f, "{}", Sent(action_in(bytes)));
+        }
+        match read(bytes) {
+            Ok(event) => write!(f, "{}", Said(event, byte_at(bytes, 1))),
+            Err(refusal) => write_unread(f, kind, refusal),
+        }
     }
 }
 
 // The line of a record: its offset, its bytes in hex, and its words.
-pub(crate) fn put_line(out: &mut [u8], at: usize, offset: usize, bytes: &[u8]) -> usize {
-    let at = put_numbered(out, at, b"  ", offset);
-    let at = put(out, at, b":");
-    let at = put_hex(out, at, bytes);
-    let at = put(out, at, b" - ");
-    let at = put_record(out, at, bytes);
-    put(out, at, b"\n")
+#[derive(Clone, Copy)]
+pub(crate) struct RecordLine<'a> {
+    pub(crate) offset: usize,
+    pub(crate) bytes: &'a [u8],
+}
+
+impl Display for RecordLine<'_> {
+    fn fmt<W: fmt::Write>(&self, f: &mut Formatter<W>) -> fmt::Result {
+        let offset = self.offset;
+        let hex = Hex(self.bytes);
+        let words = Words(self.bytes);
+        writeln!(f, "  {offset}:{hex} - {words}")
+    }
 }
 
 // The line of the record that stands at an offset of a sheet; none past its end.
-pub(crate) fn put_line_at(out: &mut [u8], at: usize, sheet: &[u8], offset: usize) -> usize {
-    let end = end_of(sheet, offset);
-    if end > sheet.len() {
-        return at;
+#[derive(Clone, Copy)]
+pub(crate) struct LineAt<'a> {
+    pub(crate) sheet: &'a [u8],
+    pub(crate) offset: usize,
+}
+
+impl Display for LineAt<'_> {
+    fn fmt<W: fmt::Write>(&self, f: &mut Formatter<W>) -> fmt::Result {
+        let LineAt { sheet, offset } = *self;
+        match sheet.get(offset..end_of(sheet, offset)) {
+            Some(bytes) => write!(f, "{}", RecordLine { offset, bytes }),
+            None => Ok(()),
+        }
     }
-    if offset > end {
-        return at;
-    }
-    put_line(out, at, offset, &sheet[offset..end])
 }
 
 // The lines of the records from an offset of a sheet up to another. Each record has a byte, so that there are no more than bytes.
-pub(crate) fn put_lines(out: &mut [u8], at: usize, sheet: &[u8], from: usize, end: usize) -> usize {
-    let mut to = at;
-    let mut offset = from;
-    let mut left = end;
-    loop {
-        if offset >= end {
-            break to;
+#[derive(Clone, Copy)]
+pub(crate) struct Lines<'a> {
+    pub(crate) sheet: &'a [u8],
+    pub(crate) from: usize,
+    pub(crate) end: usize,
+}
+
+impl Display for Lines<'_> {
+    fn fmt<W: fmt::Write>(&self, f: &mut Formatter<W>) -> fmt::Result {
+        let Lines { sheet, from, end } = *self;
+        let mut offset = from;
+        for _ in 0..end {
+            if offset >= end {
+                break;
+            }
+            write!(f, "{}", LineAt { sheet, offset })?;
+            offset = end_of(sheet, offset);
         }
-        if left == 0 {
-            break to;
-        }
-        to = put_line_at(out, to, sheet, offset);
-        offset = end_of(sheet, offset);
-        left -= 1;
+        Ok(())
     }
 }
 
 // The last event records before an offset: where the last but one and the last begin, and how many records stand behind the last.
-#[derive(Clone, Copy)]
+#[derive(Clone, Copy, Default)]
 pub(crate) struct Entries {
     pub(crate) before: usize,
     pub(crate) last: usize,
@@ -151,9 +161,8 @@ impl Entries {
     fn with(self, kind: u8, at: usize) -> Entries {
         if length_of(kind) == 0 {
             return Entries {
-                before: self.before,
-                last: self.last,
-                behind: wrapping_add_usize(self.behind, 1),
+                behind: self.behind.wrapping_add(1),
+                ..self
             };
         }
         Entries {
@@ -166,22 +175,14 @@ impl Entries {
 
 // The last event records of a sheet before this offset, where a record begins.
 pub(crate) fn entries_before(sheet: &[u8], end: usize) -> Entries {
-    let mut entries = Entries {
-        before: 0,
-        last: 0,
-        behind: 0,
-    };
+    let mut entries = Entries::default();
     let mut at = 0;
-    let mut left = end;
-    loop {
+    for _ in 0..end {
         if at >= end {
-            break entries;
-        }
-        if left == 0 {
-            break entries;
+            break;
         }
         entries = entries.with(byte_at(sheet, at), at);
         at = end_of(sheet, at);
-        left -= 1;
     }
+    entries
 }

@@ -1,23 +1,28 @@
 // What `resheftal state` prints: the state after a record of a log, and the record that led there.
-use crate::log::{put_records, records_of, stopped_at};
-use crate::marked::put_bad_mark;
-use crate::standing::{end_of, put_line_at};
-use crate::started::put_limits;
-use crate::state::put_state;
-use crate::text::{Told, put, put_count, put_numbered};
-use crate::words::put_refused;
+use crate::log::{Records, records_of, stopped_at};
+use crate::marked::BAD_MARK;
+use crate::standing::{LineAt, end_of};
+use crate::started::{Start, same_limits};
+use crate::state::AllOf;
+use crate::text::{Count, Told, put_text};
+use crate::words::RefusalLine;
 use marks::lookup::{Looked, NO_MARK, look_up};
 use marks::mark::{MARK_EVERY, MARK_SIZE};
 use place::limits::Limits;
-use std::num::wrapping_sub_usize;
+use std::fmt;
+use std::fmt::{Display, Formatter};
 use unit::run::run;
 use unit::start::cold_start;
-use wire::join::and;
-use wire::refusal::{ACCEPTED, NOT_SOUND};
+use wire::refusal::{ACCEPTED, Refusal};
 
-// What is asked for: the number of a record, the mark that it calls for (0 is the start), and how many marks there are.
+// Behind what shows it: that the marks are those of another log.
+const FOREIGN: &str = ": the marks are not those of this log\n";
+
+// What is asked for: a start, a log, the number of a record, the mark that it calls for (0 is the start), and how many marks there are.
 #[derive(Clone, Copy)]
-struct Called {
+struct Called<'a> {
+    limits: Limits,
+    log: &'a [u8],
     record: usize,
     mark: usize,
     held: usize,
@@ -26,204 +31,222 @@ struct Called {
 // As a lookup answers, with every record stepped from the start on.
 fn stepped(limits: Limits, log: &[u8], record: usize) -> Looked {
     let started = cold_start(limits);
-    let state = started.state;
     if started.code != ACCEPTED {
         return Looked {
             code: started.code,
-            state,
+            state: started.state,
             steps: 0,
             offset: 0,
         };
     }
-    let report = run(state, log, record);
-    let tally = report.tally;
-    let reached = tally.state;
-    let steps = tally.read as usize;
+    let report = run(started.state, log, record);
+    let steps = report.tally.read as usize;
     Looked {
-        code: code_of(report.code, steps == record),
-        state: reached,
+        code: match report.code {
+            ACCEPTED if steps != record => NO_MARK,
+            code => code,
+        },
+        state: report.tally.state,
         steps,
-        offset: tally.offset,
+        offset: report.tally.offset,
     }
 }
 
-// The refusal of a run, or of one that did not reach the record.
-fn code_of(code: u8, found: bool) -> u8 {
-    if code != ACCEPTED {
-        return code;
+// Behind the number of refusal 19: that the mark is not there, or that the log stops before the record; from a mark inside one of its
+// records that may be, although it has as many.
+#[derive(Clone, Copy)]
+struct NoMark<'a>(Called<'a>);
+
+impl Display for NoMark<'_> {
+    fn fmt<W: fmt::Write>(&self, f: &mut Formatter<W>) -> fmt::Result {
+        let Called {
+            log,
+            record,
+            mark,
+            held,
+            ..
+        } = self.0;
+        if held < mark {
+            let marks = Count(held, "mark", "marks");
+            return writeln!(
+                f,
+                ": mark {mark}, which record {record} calls for, is not there: the file has {marks}"
+            );
+        }
+        if records_of(log) < record {
+            let records = Records(log);
+            return write!(
+                f,
+                ": the log stops before record {record}: it has {records}"
+            );
+        }
+        write!(
+            f,
+            ": from mark {mark} on the log stops before record {record}{FOREIGN}"
+        )
     }
-    if found { ACCEPTED } else { NO_MARK }
-}
-
-fn put_foreign(out: &mut [u8], at: usize) -> usize {
-    put(out, at, b": the marks are not those of this log\n")
-}
-
-// The mark that is called for.
-fn put_called(out: &mut [u8], at: usize, called: Called) -> usize {
-    let at = put_numbered(out, at, b": mark ", called.mark);
-    put_numbered(out, at, b", which record ", called.record)
-}
-
-// That the log stops before the record; from a mark inside one of its records that may be, although it has as many.
-fn put_stops(out: &mut [u8], at: usize, log: &[u8], called: Called) -> usize {
-    if records_of(log) < called.record {
-        let at = put_numbered(out, at, b": the log stops before record ", called.record);
-        let at = put(out, at, b": it has ");
-        return put_records(out, at, log);
-    }
-    let at = put_numbered(out, at, b": from mark ", called.mark);
-    let at = put_numbered(out, at, b" on the log stops before record ", called.record);
-    put_foreign(out, at)
-}
-
-// Refusal 19: the mark is not there, or the log stops before the record.
-fn put_no_mark(out: &mut [u8], at: usize, log: &[u8], called: Called) -> usize {
-    let at = put_numbered(out, at, b"refused with ", NO_MARK as usize);
-    if called.held < called.mark {
-        let at = put_called(out, at, called);
-        let at = put(out, at, b" calls for, is not there: the file has ");
-        return put_count(out, at, called.held, b" mark\n", b" marks\n");
-    }
-    put_stops(out, at, log, called)
 }
 
 // Why no state is told.
-fn put_not_found(out: &mut [u8], at: usize, code: u8, log: &[u8], called: Called) -> usize {
-    if code == NO_MARK {
-        return put_no_mark(out, at, log, called);
+#[derive(Clone, Copy)]
+struct NotFound<'a> {
+    code: u8,
+    called: Called<'a>,
+}
+
+impl Display for NotFound<'_> {
+    fn fmt<W: fmt::Write>(&self, f: &mut Formatter<W>) -> fmt::Result {
+        let Called { record, mark, .. } = self.called;
+        let code = self.code;
+        if code == NO_MARK {
+            return write!(f, "refused with {NO_MARK}{}", NoMark(self.called));
+        }
+        if code == Refusal::NotSound.number() {
+            return write!(
+                f,
+                "refused with {code}: mark {mark}, which record {record} calls for,{BAD_MARK}"
+            );
+        }
+        write!(f, "{}", RefusalLine(code, "the log"))
     }
-    if code == NOT_SOUND {
-        let at = put_numbered(out, at, b"refused with ", code as usize);
-        let at = put_called(out, at, called);
-        let at = put(out, at, b" calls for,");
-        return put_bad_mark(out, at);
-    }
-    put_refused(out, at, code, b": the log has more than 1048576 bytes\n")
 }
 
 // How many records were stepped, and from where.
-fn put_steps(out: &mut [u8], at: usize, steps: usize, mark: usize) -> usize {
-    let at = put(out, at, b": stepped ");
-    let at = put_count(out, at, steps, b" record from ", b" records from ");
-    if mark == 0 {
-        return put(out, at, b"the start\n");
+#[derive(Clone, Copy)]
+struct Steps {
+    steps: usize,
+    mark: usize,
+}
+
+impl Display for Steps {
+    fn fmt<W: fmt::Write>(&self, f: &mut Formatter<W>) -> fmt::Result {
+        let mark = self.mark;
+        let records = Count(self.steps, "record", "records");
+        if mark == 0 {
+            return write!(f, "stepped {records} from the start");
+        }
+        write!(f, "stepped {records} from mark {mark}")
     }
-    let at = put_numbered(out, at, b"mark ", mark);
-    put(out, at, b"\n")
 }
 
 // The state, and before it the record that led there, which begins at this offset.
-fn put_found(
-    out: &mut [u8],
-    at: usize,
-    log: &[u8],
+#[derive(Clone, Copy)]
+struct Found<'a> {
+    called: Called<'a>,
+    looked: Looked,
     from: usize,
-    looked: Looked,
-    called: Called,
-) -> usize {
-    let state = looked.state;
-    let at = put_numbered(out, at, b"after record ", called.record);
-    let at = put_numbered(out, at, b" at offset ", looked.offset);
-    let at = put_steps(out, at, looked.steps, called.mark);
-    let at = put(out, at, b"the record that led there:\n");
-    let at = put_line_at(out, at, log, from);
-    put_state(out, at, state)
 }
 
-// The state before the first record.
-fn put_before(out: &mut [u8], at: usize, looked: Looked) -> usize {
-    let state = looked.state;
-    let at = put(out, at, b"before the first record");
-    let at = put_steps(out, at, 0, 0);
-    put_state(out, at, state)
+impl Display for Found<'_> {
+    fn fmt<W: fmt::Write>(&self, f: &mut Formatter<W>) -> fmt::Result {
+        let Called {
+            log,
+            record,
+            mark,
+            ..
+        } = self.called;
+        let Looked {
+            state,
+            steps,
+            offset,
+            ..
+        } = self.looked;
+        let steps = Steps { steps, mark };
+        let line = LineAt {
+            sheet: log,
+            offset: self.from,
+        };
+        let state = AllOf(state);
+        writeln!(f, "after record {record} at offset {offset}: {steps}")?;
+        write!(f, "the record that led there:\n{line}{state}")
+    }
 }
 
-// That the record ends elsewhere in the log than the marks say.
-fn put_others(out: &mut [u8], at: usize, end: usize, looked: Looked, called: Called) -> usize {
-    let at = put_numbered(out, at, b"different: record ", called.record);
-    let at = put_numbered(out, at, b" ends at offset ", end);
-    let at = put_numbered(out, at, b" of the log, and by mark ", called.mark);
-    let at = put_numbered(out, at, b" at offset ", looked.offset);
-    put_foreign(out, at)
-}
-
-// That the mark holds another start than the one asked for.
-fn put_other_start(out: &mut [u8], at: usize, limits: Limits, called: Called) -> usize {
-    let at = put_numbered(out, at, b"different: mark ", called.mark);
-    let at = put(out, at, b" is of a box that was started with ");
-    put_limits(out, at, limits)
-}
-
-fn is_same(a: Limits, b: Limits) -> bool {
-    let within = and(a.lowest == b.lowest, a.highest == b.highest);
-    and(within, a.tries == b.tries)
-}
-
-// Tells the state that was found, if it is that of this log and this start: by lengths alone the log says where its records end, and a
-// start stays in the state.
-fn tell_found(
-    limits: Limits,
-    log: &[u8],
-    looked: Looked,
-    called: Called,
-    out: &mut [u8],
-    at: usize,
-) -> Told {
-    let state = looked.state;
-    let held = state.limits;
-    let from = stopped_at(log, wrapping_sub_usize(called.record, 1));
-    let end = end_of(log, from);
-    if end != looked.offset {
-        return Told {
-            length: put_others(out, at, end, looked, called),
+impl Called<'_> {
+    // Tells the state that was found, if it is that of this log and this start: by lengths alone the log says where its records end, and a
+    // start stays in the state.
+    fn tell_found(self, looked: Looked, out: &mut [u8], at: usize) -> Told {
+        let Called {
+            limits,
+            log,
+            record,
+            mark,
+            ..
+        } = self;
+        let Looked { state, offset, .. } = looked;
+        let from = stopped_at(log, record.wrapping_sub(1));
+        let end = end_of(log, from);
+        if end != offset {
+            let text = format_args!(
+                "different: record {record} ends at offset {end} of the log, and by mark {mark} at offset {offset}{FOREIGN}"
+            );
+            return Told {
+                length: put_text(out, at, text),
+                accepted: false,
+            };
+        }
+        if same_limits(state.limits, limits) {
+            let called = self;
+            return Told {
+                length: put_text(
+                    out,
+                    at,
+                    Found {
+                        called,
+                        looked,
+                        from,
+                    },
+                ),
+                accepted: true,
+            };
+        }
+        let start = Start(state.limits);
+        let text = format_args!("different: mark {mark} is of a box that was started with {start}");
+        Told {
+            length: put_text(out, at, text),
             accepted: false,
-        };
+        }
     }
-    if is_same(held, limits) {
-        return Told {
-            length: put_found(out, at, log, from, looked, called),
-            accepted: true,
-        };
-    }
-    Told {
-        length: put_other_start(out, at, held, called),
-        accepted: false,
-    }
-}
 
-// Tells what was found, or why nothing was.
-fn tell(limits: Limits, log: &[u8], looked: Looked, called: Called, out: &mut [u8]) -> Told {
-    let at = put_limits(out, 0, limits);
-    if looked.code != ACCEPTED {
-        return Told {
-            length: put_not_found(out, at, looked.code, log, called),
-            accepted: false,
-        };
+    // Tells what was found, or why nothing was.
+    fn tell(self, looked: Looked, out: &mut [u8]) -> Told {
+        let at = put_text(out, 0, Start(self.limits));
+        if looked.code != ACCEPTED {
+            let text = NotFound {
+                code: looked.code,
+                called: self,
+            };
+            return Told {
+                length: put_text(out, at, text),
+                accepted: false,
+            };
+        }
+        if self.record == 0 {
+            let steps = Steps { steps: 0, mark: 0 };
+            let state = AllOf(looked.state);
+            return Told {
+                length: put_text(
+                    out,
+                    at,
+                    format_args!("before the first record: {steps}\n{state}"),
+                ),
+                accepted: true,
+            };
+        }
+        self.tell_found(looked, out, at)
     }
-    if called.record == 0 {
-        return Told {
-            length: put_before(out, at, looked),
-            accepted: true,
-        };
-    }
-    tell_found(limits, log, looked, called, out, at)
 }
 
 // Tells the state after this record of a log, stepped from a cold start with these limits; or the refusal.
 pub fn state_text(limits: Limits, log: &[u8], record: usize, out: &mut [u8]) -> Told {
-    let looked = stepped(limits, log, record);
-    tell(
+    let called = Called {
         limits,
         log,
-        looked,
-        Called {
-            record,
-            mark: 0,
-            held: 0,
-        },
-        out,
-    )
+        record,
+        mark: 0,
+        held: 0,
+    };
+    called.tell(stepped(limits, log, record), out)
 }
 
 // Tells the same from the nearest mark at or before the record; or the refusal.
@@ -234,16 +257,12 @@ pub fn marked_state_text(
     record: usize,
     out: &mut [u8],
 ) -> Told {
-    let looked = look_up(limits, log, marks, record);
-    tell(
+    let called = Called {
         limits,
         log,
-        looked,
-        Called {
-            record,
-            mark: record / MARK_EVERY,
-            held: marks.len() / MARK_SIZE,
-        },
-        out,
-    )
+        record,
+        mark: record / MARK_EVERY,
+        held: marks.len() / MARK_SIZE,
+    };
+    called.tell(look_up(limits, log, marks, record), out)
 }

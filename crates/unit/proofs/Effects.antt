@@ -20,7 +20,7 @@ use Rattle.record.specs.declared.partner.Partner.{Partner}
 use Rattle.record.specs.declared.event.PartnerEvent.{PartnerEvent}
 use Rattle.record.specs.declared.event.PartnerEvent.TheVariants.{Drop, Up, Loss, Timeout, Version, Ended}
 use Rattle.record.specs.declared.event.Event.{Event}
-use Rattle.record.specs.declared.event.Reading.TheVariants.{Meant}
+use Rattle.record.specs.Readings.{Meant}
 use Rattle.wire.proofs.Tests.{and_both, cond-case, cond-holds, true-false}
 use Rattle.record.proofs.Partners.{same_refl, same-eq}
 use Rattle.place.specs.Places.{vacant, seat, is_free, holds}

@@ -7,7 +7,7 @@ use Prim.Native.Nat.{ℕ, ◌≤◌, ◌<◌}
 use borrow.Author.Tests.{le-leb, lt-leb}
 use Rattle.record.specs.Records.{reading}
 use Rattle.wire.specs.Refusals.{no_room, not_sound}
-use Rattle.record.specs.declared.event.Reading.{Reading}
+use Rattle.record.specs.Readings.{Reading}
 use Rattle.unit.specs.States.{sound}
 use Rattle.unit.specs.Steps.{refused}
 use Rattle.unit.specs.OnRecords.{action_room, on_reading, applied, on_record, on_record_unchecked}

@@ -5,12 +5,15 @@
 use mathlib.Core.Path.{◌≡◌, refl, sym, ap, ap₂, subst, ◌∙◌}
 use mathlib.Core.Bool.{true, false}
 use mathlib.Core.List.{List, [], ◌∷◌, ◌++◌, map, append-nil, map-append}
-use Prim.Native.Nat.{ℕ, zero, suc, ◌+◌, ◌≤◌, ◌<◌}
+use Prim.Native.Nat.{ℕ, zero, suc, ◌+◌, ◌≤◌}
 use native.Mathlib.Omega.{arith}
 use lib.ListN.{length, set, length-append, length-map}
-use borrow.Author.Tests.{eq-eqb, ne_eqb, eqb-true}
+use borrow.Author.Tests.{ne_eqb, eqb-true}
 use lib.Dec.{eqb}
+use Rattle.std.specs.Prelude.{None, Some}
 use Rattle.wire.specs.Refusals as refusal
+use Rattle.wire.specs.declared.refusal.Refusal.{Refusal}
+use Rattle.wire.proofs.Distinct.{refused-some}
 use Rattle.record.specs.declared.partner.Partner.{Partner}
 use Rattle.record.specs.declared.event.Event.{Event}
 use Rattle.wire.proofs.Tests.{true-false, cond-case}
@@ -101,19 +104,19 @@ set_past (q ∷ ps) (suc i) p above = ap (◌∷◌ q) (set_past ps i p (omega a
 
 module _ (s : State) where
   -- a change that is refused: the state as it is, and where the partner stands
-  pub carried-refused : (c : Change) → refusal.accepted < c.code → carried s c ≡ refused_at c.code c.standing s
+  pub carried-refused : (c : Change) (r : Refusal) → c.refusal ≡ Some r → carried s c ≡ refused_at (refusal.number r) c.standing s
   unfolding carried
-  carried-refused c numbered = simp (ne_eqb c.code refusal.accepted (λ none. omega arith))
+  carried-refused c r is = simp (is, ne_eqb (refusal.number r) refusal.accepted (λ none. omega (arith, refused-some r)))
 
   -- one that is accepted
-  pub carried-made : (c : Change) → c.code ≡ refusal.accepted → carried s c ≡ made s c
+  pub carried-made : (c : Change) → c.refusal ≡ None → carried s c ≡ made s c
   unfolding carried
-  carried-made c accepted = simp (eq-eqb c.code refusal.accepted accepted)
+  carried-made c accepted = simp accepted
 
   module _ (four : length s.places ≡ place_count) (t : Train) (m : Marks) (w : Standing) where
     -- a change that sets no place: the closings alone
     pub carried-noted : (which : Closing)
-        → carried s (noted refusal.accepted t m which w s.last)
+        → carried s (noted None t m which w s.last)
         ≡ done (with_places (with_marks (with_train s t) m) (closed which s.places)) (closing_actions which s.places)
     unfolding carried made settled noted given
     carried-noted which =
@@ -123,7 +126,7 @@ module _ (s : State) where
         (append-nil (closing_actions which s.places) i)
 
     -- and with no closing: the train and the marks alone
-    pub carried-quiet : carried s (noted refusal.accepted t m Nothing w s.last) ≡ done (with_marks (with_train s t) m) []
+    pub carried-quiet : carried s (noted None t m Nothing w s.last) ≡ done (with_marks (with_train s t) m) []
     carried-quiet =
         carried-noted Nothing
         ∙ (λ i. done (with_places (with_marks (with_train s t) m) (closed-nothing s.places i)) (closing_actions-nothing s.places i))
@@ -133,7 +136,7 @@ module _ (s : State) where
       → known ≡ recalled_by s.last (act p f)
       → last ≡ recalled_by known (act p g)
       → carried s (record {
-        code = refusal.accepted;
+        refusal = None;
         train = s.train;
         marks = s.marks;
         which = Nothing;
@@ -164,7 +167,7 @@ module _ (s : State) where
   -- a partner taken in after the closings
   pub carried-take : (m : Marks) (which : Closing) (at : ℕ) (p : Partner) (w : Standing)
       → carried s (record {
-        code = refusal.accepted;
+        refusal = None;
         train = s.train;
         marks = m;
         which = which;

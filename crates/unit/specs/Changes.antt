@@ -13,8 +13,10 @@ use Rattle.unit.specs.declared.answer.Actions.{Actions}
 use Rattle.unit.specs.declared.answer.Stepped.{Stepped}
 use Rattle.unit.specs.declared.change.Change.{Change}
 use Rattle.std.specs.Prelude.{ℕ, ◌+◌, Bool, true, false, cond, ◌≡◌, List, [], ◌∷◌, ◌++◌, map, eqb, ltb, length, set}
-use Rattle.std.specs.Prelude.{get_or}
+use Rattle.std.specs.Prelude.{Option, get_or}
+use Rattle.wire.specs.Codes.{coded}
 use Rattle.wire.specs.Refusals.{accepted}
+use Rattle.wire.specs.declared.refusal.Refusal.{Refusal}
 use Rattle.unit.specs.Forms.{most_actions, no_action}
 use Rattle.unit.specs.OnRecords.{written}
 use Rattle.unit.specs.States.{place_count, nowhere}
@@ -52,10 +54,10 @@ abbrev pub sending : Change → List Action
 sending c = map (act c.partner) (given c.first ++ given c.second)
 
 -- a change that sets no place
-unfoldable pub noted : ℕ → Train → Marks → Closing → Standing → Last → Change
+unfoldable pub noted : Option Refusal → Train → Marks → Closing → Standing → Last → Change
 noted r t m which w last =
     record {
-      code = r;
+      refusal = r;
       train = t;
       marks = m;
       which = which;
@@ -93,7 +95,7 @@ made s c =
 
 -- a change carried out, or refused
 unfoldable pub carried : State → Change → Outcome
-carried s c = cond (eqb c.code accepted) (made s c) (refused_at c.code c.standing s)
+carried s c = cond (eqb (coded c.refusal) accepted) (made s c) (refused_at (coded c.refusal) c.standing s)
 
 -- an accepted step as it is answered beside the buffer, its last actions behind so many others
 abbrev pub sent_behind : ℕ → State → List Action → Stepped

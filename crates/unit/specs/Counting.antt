@@ -9,9 +9,7 @@ use Rattle.place.specs.declared.place.Place.{Place}
 use Rattle.std.specs.Prelude.{List, [], ◌∷◌, ℕ, ◌+◌, ◌*◌, ◌≤◌, cond, not, eqb}
 use Rattle.wire.specs.Bytes.{is_empty}
 use Rattle.wire.specs.Orders.{first_that_applies}
-use Rattle.record.specs.Takes.{longest_log, nothing_left, budget_used, take_one, front_of}
-use Rattle.record.specs.declared.take.Front.{Front}
-use Rattle.record.specs.declared.take.Front.TheVariants.{Stop}
+use Rattle.record.specs.Takes.{longest_log, nothing_left, budget_used, Taken, Stopped, take_one}
 
 -- no total passes four actions for each byte of the longest log
 abbrev pub most_total : ℕ
@@ -56,9 +54,9 @@ tally_of r ps =
     }
 
 -- what a run meets next, with so many records read of its budget, in what is left of the log
-abbrev pub front_within : ℕ → ℕ → List ℕ → Front
+abbrev pub front_within : ℕ → ℕ → List ℕ → Taken
 front_within read budget log =
-    first_that_applies Stop ((not (is_empty log), nothing_left) ∷ (not (eqb read budget), budget_used) ∷ []) (front_of (take_one log))
+    first_that_applies Stopped ((not (is_empty log), nothing_left) ∷ (not (eqb read budget), budget_used) ∷ []) (take_one log)
 
 -- the rest of a run after a record of this length that was refused
 abbrev pub refused_rest : Rest → ℕ → Rest

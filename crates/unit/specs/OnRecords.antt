@@ -6,8 +6,8 @@ use Rattle.wire.specs.Orders.{first_that_applies}
 use Rattle.record.specs.Partners.{partner_bytes}
 use Rattle.record.specs.Records.{reading}
 use Rattle.wire.specs.Refusals.{no_room, not_sound}
-use Rattle.record.specs.declared.event.Reading.{Reading}
-use Rattle.record.specs.declared.event.Reading.TheVariants.{Meant, Refused}
+use Rattle.record.specs.Readings.{Reading}
+use Rattle.record.specs.Readings.{Meant, Refused}
 use Rattle.unit.specs.States.{sound}
 use Rattle.unit.specs.Steps.{Outcome, refused, step}
 use Rattle.unit.specs.declared.state.State.{State}

@@ -1,5 +1,6 @@
 // Answers of the box, and the actions of one step.
 ghost use Rattle.std.specs.Prelude.{◌≡◌, List, []};
+ghost use Rattle.wire.specs.Refusals.{number};
 ghost use Rattle.unit.specs.Steps.{refused_at, refused, done};
 ghost use Rattle.unit.specs.Forms.{listed, packed};
 ghost use Rattle.unit.specs.Changes.{pushed, push_all, given, sent_for};
@@ -9,7 +10,7 @@ use crate::state::{PLACES, State};
 use place::action::NO_ACTION;
 use place::place::Place;
 use record::partner::Partner;
-use wire::refusal::ACCEPTED;
+use wire::refusal::{ACCEPTED, Refusal};
 
 // The most actions of one step.
 pub const MOST_ACTIONS: usize = 4;
@@ -96,11 +97,8 @@ impl Actions {
         ensures { result ≡ listed (sent_for places numbers) }
     {
         let mut actions = Actions::none();
-        let mut i = 0;
-        while i < PLACES {
-            let place = places[i];
-            actions = actions.send_number(place.partner(), numbers[i]);
-            i += 1;
+        for i in 0..PLACES {
+            actions = actions.send_number(places[i].partner(), numbers[i]);
         }
         actions
     }
@@ -108,11 +106,11 @@ impl Actions {
 
 impl Answer {
     // A refusal that says where the partner stands: the state as given, no action.
-    pub(crate) fn refused_at(code: u8, standing: Standing, state: State) -> Answer
-        ensures { result ≡ packed (refused_at code standing state) }
+    pub(crate) fn refused_at(refusal: Refusal, standing: Standing, state: State) -> Answer
+        ensures { result ≡ packed (refused_at (number refusal) standing state) }
     {
         Answer {
-            code,
+            code: refusal.number(),
             state,
             actions: Actions::none(),
             standing,
@@ -120,10 +118,10 @@ impl Answer {
     }
 
     // A refusal: the state as given, no action.
-    pub(crate) fn refused(code: u8, state: State) -> Answer
-        ensures { result ≡ packed (refused code state) }
+    pub(crate) fn refused(refusal: Refusal, state: State) -> Answer
+        ensures { result ≡ packed (refused (number refusal) state) }
     {
-        Answer::refused_at(code, Standing::nowhere(), state)
+        Answer::refused_at(refusal, Standing::nowhere(), state)
     }
 
     // An accepted step.

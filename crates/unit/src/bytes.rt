@@ -1,6 +1,7 @@
 // One step from bytes to bytes: an event record in, the actions out.
 ghost use Rattle.std.specs.Prelude.{◌≡◌, [], ◌∷◌, map, ◌+◌, ◌≤◌, ◌<◌, length};
 ghost use Rattle.std.proofs.lemmas.List.Edits.{sets};
+ghost use Rattle.wire.specs.Refusals.{number};
 ghost use Rattle.unit.specs.Steps.{refused_at, act, closed, closing_actions, step};
 ghost use Rattle.unit.specs.OnRecords.{action_room, action_size, bytes_of, written, applied, on_record, on_record_unchecked};
 ghost use Rattle.unit.specs.Forms.{most_actions, packed, stepped};
@@ -14,10 +15,10 @@ use crate::step::closes_any;
 use place::action::NO_ACTION;
 use place::place::Place;
 use place::turn::Closing;
-use record::event::{Event, Reading};
+use record::event::Event;
 use record::partner::Partner;
 use record::read::read;
-use wire::refusal::{ACCEPTED, NO_ROOM, NOT_SOUND};
+use wire::refusal::{ACCEPTED, Refusal};
 
 // The bytes of one action, and the least room for a step's.
 pub const ACTION_SIZE: usize = 5;
@@ -67,11 +68,11 @@ struct Shut {
 
 impl Stepped {
     // A refusal: the state as given, no action.
-    fn refused(code: u8, standing: Standing, state: State) -> Stepped
-        ensures { result ≡ stepped (refused_at code standing state) }
+    fn refused(refusal: Refusal, standing: Standing, state: State) -> Stepped
+        ensures { result ≡ stepped (refused_at (number refusal) standing state) }
     {
         Stepped {
-            code,
+            code: refusal.number(),
             state,
             count: 0,
             standing,
@@ -86,11 +87,11 @@ impl State {
     {
         if self.is_sound() {
             match read(bytes) {
-                Reading::Meant(event) => self.step(event),
-                Reading::Refused(code) => Answer::refused(code, self),
+                Ok(event) => self.step(event),
+                Err(refusal) => Answer::refused(refusal, self),
             }
         } else {
-            Answer::refused(NOT_SOUND, self)
+            Answer::refused(Refusal::NotSound, self)
         }
     }
 
@@ -103,14 +104,11 @@ impl State {
     {
         let mut places = self.places;
         let mut count = 0;
-        let mut i = 0;
-        while i < PLACES {
+        for i in 0..PLACES {
             let place = places[i];
             let turned = place.close(which);
-            let next = turned.place;
             count = put_number(s, count, place.partner(), turned.first);
-            places[i] = next;
-            i += 1;
+            places[i] = turned.place;
         }
         Shut { places, count }
     }
@@ -153,12 +151,9 @@ impl State {
         ensures { (result ≡ stepped (step self event)) × (s.new ≡ written (step self event).actions s.old) }
     {
         let change = self.change(event);
-        let code = change.code;
-        let standing = change.standing;
-        if code == ACCEPTED {
-            self.write_change(change, s)
-        } else {
-            Stepped::refused(code, standing, self)
+        match change.refusal {
+            None => self.write_change(change, s),
+            Some(refusal) => Stepped::refused(refusal, change.standing, self),
         }
     }
 
@@ -170,11 +165,11 @@ impl State {
             ≡ written (on_record_unchecked self bytes.now (length actions.old)).actions actions.old) }
     {
         if actions.len() < ACTION_ROOM {
-            return Stepped::refused(NO_ROOM, Standing::nowhere(), self);
+            return Stepped::refused(Refusal::NoRoom, Standing::nowhere(), self);
         }
         match read(bytes) {
-            Reading::Meant(event) => self.write_step(event, actions),
-            Reading::Refused(code) => Stepped::refused(code, Standing::nowhere(), self),
+            Ok(event) => self.write_step(event, actions),
+            Err(refusal) => Stepped::refused(refusal, Standing::nowhere(), self),
         }
     }
 
@@ -186,12 +181,12 @@ impl State {
             ≡ written (on_record self bytes.now (length actions.old)).actions actions.old) }
     {
         if actions.len() < ACTION_ROOM {
-            return Stepped::refused(NO_ROOM, Standing::nowhere(), self);
+            return Stepped::refused(Refusal::NoRoom, Standing::nowhere(), self);
         }
         if self.is_sound() {
             self.on_record_unchecked(bytes, actions)
         } else {
-            Stepped::refused(NOT_SOUND, Standing::nowhere(), self)
+            Stepped::refused(Refusal::NotSound, Standing::nowhere(), self)
         }
     }
 }

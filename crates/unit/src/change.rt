@@ -2,7 +2,7 @@
 ghost use Rattle.std.specs.Prelude.{◌≡◌, ◌<◌, true, false, [], ◌++◌, map, get_or};
 ghost use Rattle.place.specs.Places.{vacant, held_phase};
 ghost use Rattle.place.specs.Table.{turn};
-ghost use Rattle.wire.specs.Refusals.{accepted};
+ghost use Rattle.wire.specs.Refusals.{number};
 ghost use Rattle.unit.specs.States.{place_count, standing};
 ghost use Rattle.unit.specs.declared.search.Found.TheVariants.{At};
 ghost use Rattle.unit.specs.Steps.{refused_at, refused, done, act, with_train, with_marks, close_places, taken_in};
@@ -23,16 +23,14 @@ use place::turn::Closing;
 use record::event::{Cause, Event, PartnerEvent};
 use record::partner::Partner;
 use wire::join::or;
-use wire::refusal::{
-    ACCEPTED, ALL_TAKEN, CALL_FROM_RIU, HAS_NONE, HAS_PLACE, NONE_KNOWN, NOT_IN_FORCE, NOT_TAKEN,
-};
+use wire::refusal::Refusal;
 
-// A step before it is carried out: 0 or the number of the refusal; the train and the marks after it; which places are closed;
+// A step before it is carried out: the refusal, if it is one; the train and the marks after it; which places are closed;
 // then the place that is set, if its number is one of the four; the partner and the numbers of the actions that are sent last, 0 for
 // none; for a refusal, the place and phase that it says; and the RBC that is then the last known.
 #[derive(Clone, Copy)]
 pub(crate) struct Change {
-    pub code: u8,
+    pub refusal: Option<Refusal>,
     pub train: Train,
     pub marks: Marks,
     pub which: Closing,
@@ -48,17 +46,17 @@ pub(crate) struct Change {
 impl Change {
     // A change that sets no place.
     fn noted(
-        code: u8,
+        refusal: Option<Refusal>,
         train: Train,
         marks: Marks,
         which: Closing,
         standing: Standing,
         last: Last,
     ) -> Change
-        ensures { result ≡ noted code train marks which standing last }
+        ensures { result ≡ noted refusal train marks which standing last }
     {
         Change {
-            code,
+            refusal,
             train,
             marks,
             which,
@@ -80,34 +78,38 @@ impl Change {
 
 impl State {
     // No change, the number of the refusal, and where the partner stands.
-    fn refuse_with(self, code: u8, standing: Standing) -> Change
-        requires { accepted < code }
-        ensures { carried self result ≡ refused_at code standing self }
+    fn refuse_with(self, refusal: Refusal, standing: Standing) -> Change
+        ensures { carried self result ≡ refused_at (number refusal) standing self }
     {
         let train = self.train;
         let marks = self.marks;
         let last = self.last;
-        Change::noted(code, train, marks, Closing::Nothing, standing, last)
+        Change::noted(
+            Some(refusal),
+            train,
+            marks,
+            Closing::Nothing,
+            standing,
+            last,
+        )
     }
 
     // A refusal that says no place.
-    fn refuse(self, code: u8) -> Change
-        requires { accepted < code }
-        ensures { carried self result ≡ refused code self }
+    fn refuse(self, refusal: Refusal) -> Change
+        ensures { carried self result ≡ refused (number refusal) self }
     {
-        self.refuse_with(code, Standing::nowhere())
+        self.refuse_with(refusal, Standing::nowhere())
     }
 
     // A refusal that says the place and the phase in which the partner was found.
-    fn refuse_at(self, code: u8, place: usize, phase: Phase) -> Change
-        requires { accepted < code }
-        ensures { carried self result ≡ refused_at code (standing (At place phase)) self }
+    fn refuse_at(self, refusal: Refusal, place: usize, phase: Phase) -> Change
+        ensures { carried self result ≡ refused_at (number refusal) (standing (At place phase)) self }
     {
         let standing = Standing {
             place,
             phase: phase.number(),
         };
-        self.refuse_with(code, standing)
+        self.refuse_with(refusal, standing)
     }
 
     // Another train and other marks.
@@ -116,7 +118,7 @@ impl State {
     {
         let last = self.last;
         Change::noted(
-            ACCEPTED,
+            None,
             train,
             marks,
             Closing::Nothing,
@@ -132,7 +134,7 @@ impl State {
         let marks = self.marks;
         let last = self.last;
         Change::noted(
-            ACCEPTED,
+            None,
             train,
             marks,
             Closing::Every,
@@ -167,7 +169,7 @@ impl State {
         let train = self.train;
         let mut marks = self.marks;
         if marks.inside {
-            return self.refuse(NOT_TAKEN);
+            return self.refuse(Refusal::NotTaken);
         }
         marks.inside = true;
         marks.end = false;
@@ -184,7 +186,7 @@ impl State {
             marks.end = true;
             return self.note(train, marks);
         }
-        self.refuse(NOT_TAKEN)
+        self.refuse(Refusal::NotTaken)
     }
 
     fn mission(self, mission: u64) -> Change
@@ -215,7 +217,7 @@ impl State {
         let last = self.last;
         let phase = Phase::Connecting(FIRST_TRY);
         Change {
-            code: ACCEPTED,
+            refusal: None,
             train,
             marks,
             which,
@@ -235,10 +237,10 @@ impl State {
     {
         let marks = self.marks;
         if partner.is_reserved() {
-            return self.refuse(NONE_KNOWN);
+            return self.refuse(Refusal::NoneKnown);
         }
         match self.seek(partner) {
-            Found::At { place, phase } => self.refuse_at(HAS_PLACE, place, phase),
+            Found::At { place, phase } => self.refuse_at(Refusal::HasPlace, place, phase),
             Found::Vacant(at) => {
                 self.take_in(
                     spend(cause, marks),
@@ -247,7 +249,7 @@ impl State {
                     partner,
                 )
             }
-            Found::Full => self.refuse(ALL_TAKEN),
+            Found::Full => self.refuse(Refusal::AllTaken),
         }
     }
 
@@ -260,7 +262,7 @@ impl State {
         if in_force(cause, train, marks) {
             self.order_to(last.meant(partner), accepting, cause)
         } else {
-            self.refuse(NOT_IN_FORCE)
+            self.refuse(Refusal::NotInForce)
         }
     }
 
@@ -272,7 +274,7 @@ impl State {
         let marks = self.marks;
         let last = self.last;
         Change {
-            code: ACCEPTED,
+            refusal: None,
             train,
             marks,
             which: Closing::Nothing,
@@ -291,15 +293,15 @@ impl State {
     {
         if partner.is_rbc() {
             match self.seek(partner) {
-                Found::At { place, phase } => self.refuse_at(HAS_PLACE, place, phase),
+                Found::At { place, phase } => self.refuse_at(Refusal::HasPlace, place, phase),
                 Found::Vacant(at) => {
                     let place = Place::held(Direction::Incoming, Phase::Open, partner);
                     self.set_place(at, place, partner, ESTABLISHED, NO_ACTION)
                 }
-                Found::Full => self.refuse(ALL_TAKEN),
+                Found::Full => self.refuse(Refusal::AllTaken),
             }
         } else {
-            self.refuse(CALL_FROM_RIU)
+            self.refuse(Refusal::CallFromRiu)
         }
     }
 
@@ -315,7 +317,7 @@ impl State {
             let next = turned.place;
             self.set_place(at, next, partner, turned.first, turned.second)
         } else {
-            self.refuse_at(NOT_TAKEN, at, phase)
+            self.refuse_at(Refusal::NotTaken, at, phase)
         }
     }
 
@@ -324,8 +326,8 @@ impl State {
     {
         match self.seek(partner) {
             Found::At { place, phase } => self.turn(place, phase, partner, event),
-            Found::Vacant(_) => self.refuse(HAS_NONE),
-            Found::Full => self.refuse(HAS_NONE),
+            Found::Vacant(_) => self.refuse(Refusal::HasNone),
+            Found::Full => self.refuse(Refusal::HasNone),
         }
     }
 

@@ -21,15 +21,13 @@ impl Last {
     {
         match self {
             Last::Unknown => true,
-            Last::Known { high, middle, low } => {
-                let partner = Partner {
-                    kind: RBC,
-                    high,
-                    middle,
-                    low,
-                };
-                negated(partner.is_reserved())
+            Last::Known { high, middle, low } => negated(Partner {
+                kind: RBC,
+                high,
+                middle,
+                low,
             }
+            .is_reserved()),
         }
     }
 

@@ -42,22 +42,20 @@ pub fn in_force(cause: Cause, train: Train, marks: Marks) -> bool
 pub fn spend(cause: Cause, marks: Marks) -> Marks
     ensures { result ≡ spend cause marks }
 {
-    let mut next = marks;
     match cause {
-        Cause::StartOfMission => marks,
-        Cause::Trackside => marks,
-        Cause::ModeChange => {
-            next.mode = false;
-            next
-        }
-        Cause::ManualLevel => {
-            next.manual = false;
-            next
-        }
-        Cause::HoleEnd => {
-            next.end = false;
-            next
-        }
+        Cause::StartOfMission | Cause::Trackside => marks,
+        Cause::ModeChange => Marks {
+            mode: false,
+            ..marks
+        },
+        Cause::ManualLevel => Marks {
+            manual: false,
+            ..marks
+        },
+        Cause::HoleEnd => Marks {
+            end: false,
+            ..marks
+        },
     }
 }
 

@@ -1,6 +1,7 @@
 // The run over a log: its records one after the other, counted.
 ghost use Rattle.std.specs.Prelude.{◌≡◌, ◌+◌, ◌*◌, ◌≤◌, true, List, length, set, drop};
 ghost use Rattle.record.specs.Takes.{longest_log};
+ghost use Rattle.record.specs.Stops.{stop_number, told_front};
 ghost use Rattle.place.specs.declared.place.Place.{Place};
 ghost use Rattle.unit.specs.States.{place_count, sound};
 ghost use Rattle.unit.specs.Changes.{sent_for};
@@ -15,9 +16,9 @@ use crate::step::{close_places, closes_any};
 use place::action::{ESTABLISHED, INCOMPATIBLE, INITIATE, RELEASE, REQUEST, TERMINATE};
 use place::limits::Limits;
 use place::place::Place;
-use record::event::Reading;
-use record::take::{BUDGET_USED, Front, LONGEST_LOG, NOTHING_LEFT, front_at};
-use wire::refusal::{ACCEPTED, LOG_TOO_LONG, NOT_SOUND};
+use record::stop::Stop;
+use record::take::{Front, LONGEST_LOG, front_at};
+use wire::refusal::{ACCEPTED, Refusal};
 
 // How often each of the six actions was sent.
 #[derive(Clone, Copy)]
@@ -104,10 +105,8 @@ impl Totals {
             × Below (most_total + most_actions) result }
     {
         let mut totals = self;
-        let mut i = 0;
-        while i < PLACES {
+        for i in 0..PLACES {
             totals = totals.add(numbers[i]);
-            i += 1;
         }
         totals
     }
@@ -140,13 +139,6 @@ struct Rest {
     read: u32,
     refused: u32,
     totals: Totals,
-}
-
-// A count as a number of 64 bits.
-fn wide(n: u32) -> usize
-    ensures { result ≡ n }
-{
-    n as usize
 }
 
 // The places with this one at a number; past the last they stay.
@@ -200,14 +192,14 @@ impl Rest {
     }
 
     // What the run answers with these places and this stop.
-    fn report(self, stop: u8, places: [Place; 4]) -> Report
-        ensures { result ≡ ended (tally_of self places) stop }
+    fn report(self, stop: Stop, places: [Place; 4]) -> Report
+        ensures { result ≡ ended (tally_of self places) (stop_number stop) }
     {
         let totals = self.totals;
         let state = self.state(places);
         Report {
             code: ACCEPTED,
-            stop,
+            stop: stop.number(),
             tally: Tally {
                 state,
                 offset: self.offset,
@@ -257,14 +249,14 @@ impl Rest {
 impl Rest {
     // What the run meets next: the end of the log, then of the budget, then what stands at the offset reached.
     fn front(self, log: &[u8], budget: usize) -> Front
-        ensures { result ≡ front_within self.read budget (drop self.offset log.now) }
+        ensures { told_front result ≡ front_within self.read budget (drop self.offset log.now) }
     {
         let at = self.offset;
         if at >= log.len() {
-            return Front::Stop(NOTHING_LEFT);
+            return Front::Stop(Stop::NothingLeft);
         }
-        if wide(self.read) == budget {
-            return Front::Stop(BUDGET_USED);
+        if self.read as usize == budget {
+            return Front::Stop(Stop::BudgetUsed);
         }
         front_at(log, at)
     }
@@ -284,30 +276,28 @@ fn go(state: State, log: &[u8], budget: usize) -> Report
                 break rest.report(stop, places);
             }
             Front::Next { length, reading } => match reading {
-                Reading::Refused(_) => {
+                Err(_) => {
                     rest = rest.refuse(length);
                 }
-                Reading::Meant(event) => {
+                Ok(event) => {
                     let change = rest.state(places).change(event);
                     let which = change.which;
                     let to = change.at;
                     let place = change.place;
                     let totals = rest.totals;
-                    if change.code == ACCEPTED {
-                        if closes_any(which) {
-                            let closed = close_places(places, which);
-                            let shut = closed.places;
-                            let numbers = closed.numbers;
-                            rest = rest.accept(length, change, totals.add_all(numbers));
-                            places = seated(shut, to, place);
-                        } else if to < PLACES {
-                            rest = rest.accept(length, change, totals);
-                            places[to] = place;
-                        } else {
-                            rest = rest.accept(length, change, totals);
-                        }
-                    } else {
+                    if change.refusal.is_some() {
                         rest = rest.refuse(length);
+                    } else if closes_any(which) {
+                        let closed = close_places(places, which);
+                        let shut = closed.places;
+                        let numbers = closed.numbers;
+                        rest = rest.accept(length, change, totals.add_all(numbers));
+                        places = seated(shut, to, place);
+                    } else if to < PLACES {
+                        rest = rest.accept(length, change, totals);
+                        places[to] = place;
+                    } else {
+                        rest = rest.accept(length, change, totals);
                     }
                 }
             },
@@ -321,7 +311,7 @@ pub fn run(state: State, log: &[u8], budget: usize) -> Report
 {
     if log.len() > LONGEST_LOG {
         return Report {
-            code: LOG_TOO_LONG,
+            code: Refusal::LogTooLong.number(),
             stop: 0,
             tally: Tally::fresh(state),
         };
@@ -330,7 +320,7 @@ pub fn run(state: State, log: &[u8], budget: usize) -> Report
         go(state, log, budget)
     } else {
         Report {
-            code: NOT_SOUND,
+            code: Refusal::NotSound.number(),
             stop: 0,
             tally: Tally::fresh(state),
         }

@@ -6,7 +6,7 @@ use crate::last::Last;
 use crate::state::{MISSION_ENDED, Marks, State, Train, limits_ok};
 use place::limits::{DEFAULT_TRIES, FLEET_TRIES, Limits};
 use place::place::{Holding, Place};
-use wire::refusal::{ACCEPTED, BAD_LIMITS};
+use wire::refusal::{ACCEPTED, Refusal};
 
 // What a cold start or a reading of an image answers: 0 or the number of the refusal, and the state.
 #[derive(Clone, Copy)]
@@ -50,7 +50,7 @@ pub fn cold_start(limits: Limits) -> Started
         }
     } else {
         Started {
-            code: BAD_LIMITS,
+            code: Refusal::BadLimits.number(),
             state: cold(Limits {
                 lowest: 0,
                 highest: 0,

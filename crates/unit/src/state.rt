@@ -82,15 +82,9 @@ impl State {
         requires { i < place_count }
         ensures { result ≡ absent_from (drop (i + 1) self.places) (get_or self.places i vacant).holding }
     {
-        let place = self.places[i];
-        let holding = place.holding;
-        match holding {
+        match self.places[i].holding {
             Holding::Free => true,
-            Holding::Held {
-                direction: _,
-                phase: _,
-                partner,
-            } => { self.place_from(partner, i + 1) >= PLACES }
+            Holding::Held { partner, .. } => self.place_from(partner, i + 1) >= PLACES,
         }
     }
 
@@ -98,49 +92,30 @@ impl State {
     fn places_ok(self) -> bool
         ensures { result ≡ places_ok self.limits self.places }
     {
-        let mut i = 0;
-        loop {
-            if i >= PLACES {
-                break true;
+        for i in 0..PLACES {
+            if !self.places[i].is_sound(self.limits) {
+                return false;
             }
-            let limits = self.limits;
-            let place = self.places[i];
-            if place.is_sound(limits) {
-                if self.absent_above(i) {
-                    i += 1;
-                } else {
-                    break false;
-                }
-            } else {
-                break false;
+            if !self.absent_above(i) {
+                return false;
             }
         }
+        true
     }
 
     // Whether the state is sound.
     pub fn is_sound(self) -> bool
         ensures { result ≡ sound self }
     {
-        let limits = self.limits;
-        let train = self.train;
-        let marks = self.marks;
-        let last = self.last;
-        if limits_ok(limits) {
-            if train_ok(train) {
-                if marks_ok(marks) {
-                    if last.is_sound() {
-                        self.places_ok()
-                    } else {
-                        false
-                    }
-                } else {
-                    false
-                }
-            } else {
-                false
-            }
-        } else {
-            false
+        if !limits_ok(self.limits) {
+            return false;
         }
+        if !train_ok(self.train) {
+            return false;
+        }
+        if !marks_ok(self.marks) {
+            return false;
+        }
+        self.last.is_sound() && self.places_ok()
     }
 }

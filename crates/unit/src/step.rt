@@ -11,17 +11,12 @@ use place::action::NO_ACTION;
 use place::place::Place;
 use place::turn::Closing;
 use record::event::Event;
-use wire::refusal::ACCEPTED;
 
 // Whether the closing is for any place.
 pub(crate) fn closes_any(which: Closing) -> bool
     ensures { result ≡ closes_any which }
 {
-    match which {
-        Closing::Every => true,
-        Closing::Sessions => true,
-        Closing::Nothing => false,
-    }
+    !matches!(which, Closing::Nothing)
 }
 
 // Places that are closed, and for each of them the number of the action that is sent to its partner, 0 for none.
@@ -37,14 +32,10 @@ pub(crate) fn close_places(before: [Place; 4], which: Closing) -> Closed
 {
     let mut places = before;
     let mut numbers = [NO_ACTION; 4];
-    let mut i = 0;
-    while i < PLACES {
-        let place = places[i];
-        let turned = place.close(which);
-        let next = turned.place;
+    for i in 0..PLACES {
+        let turned = places[i].close(which);
         numbers[i] = turned.first;
-        places[i] = next;
-        i += 1;
+        places[i] = turned.place;
     }
     Closed { places, numbers }
 }
@@ -54,38 +45,23 @@ impl State {
     pub(crate) fn with_places(self, places: [Place; 4]) -> State
         ensures { result ≡ with_places self places }
     {
-        let mut next = self;
-        next.places = places;
-        next
+        State { places, ..self }
     }
 
     // The state with a change's train, marks and place, and its last known RBC.
     pub(crate) fn settle(self, change: Change) -> State
         ensures { result ≡ settled self change }
     {
-        let limits = self.limits;
-        let train = change.train;
-        let marks = change.marks;
-        let at = change.at;
-        let place = change.place;
-        let last = change.last;
         let mut places = self.places;
-        if at < PLACES {
-            places[at] = place;
-            return State {
-                limits,
-                train,
-                marks,
-                places,
-                last,
-            };
+        if change.at < PLACES {
+            places[change.at] = change.place;
         }
         State {
-            limits,
-            train,
-            marks,
+            limits: self.limits,
+            train: change.train,
+            marks: change.marks,
             places,
-            last,
+            last: change.last,
         }
     }
 
@@ -132,12 +108,9 @@ impl State {
         ensures { result ≡ packed (step self event) }
     {
         let change = self.change(event);
-        let code = change.code;
-        let standing = change.standing;
-        if code == ACCEPTED {
-            self.make(change)
-        } else {
-            Answer::refused_at(code, standing, self)
+        match change.refusal {
+            None => self.make(change),
+            Some(refusal) => Answer::refused_at(refusal, change.standing, self),
         }
     }
 }

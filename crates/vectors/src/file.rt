@@ -1,97 +1,75 @@
 // A file of vectors, one after the other: each is the length of its body in two bytes, high byte first, and the body.
-ghost use Rattle.std.specs.Prelude.{◌≡◌, length};
-
-use crate::part::short_at;
-use crate::tally::Tally;
-use crate::vector::{group_of, holds};
 use std::io;
 use std::io::Read;
 use streams::files::open_read;
 use streams::{fail, read_full};
 
-// The room for a vector.
-const LONGEST: usize = 8192;
+// What is made of the vectors of a file.
+pub trait Judge: Drop {
+    // Judges the vector that stands next.
+    fn judge<P: Print>(&mut self, out: &P, vector: &[u8]) -> io::Result<()>;
 
-// The count so far, and whether the file may hold more.
-#[derive(Clone, Copy)]
-struct Progress {
-    tally: Tally,
-    more: bool,
+    // Counts a vector that the file cuts off: nothing can be read after it.
+    fn cut_off<P: Print>(&mut self, out: &P) -> io::Result<()>;
+
+    // Writes what came of them.
+    fn report<P: Print>(&self, out: &P) -> io::Result<()>;
 }
 
-// The vector at hand is cut off: it fails, and nothing can be read after it.
-fn cut_off<P: Print>(out: &P, tally: Tally) -> io::Result<Progress> {
-    Ok(Progress {
-        tally: tally.add(out, 0, false)?,
-        more: false,
-    })
+// What stands next in a file.
+enum Next<'a> {
+    Vector(&'a [u8]),
+    CutOff,
+    End,
 }
 
-// Reads a vector that fills this room, and judges it.
-fn judge<P: Print, F: Read>(
-    out: &P,
-    file: &mut F,
-    tally: Tally,
-    body: &mut [u8],
-) -> io::Result<Progress> {
-    let got = read_full(file, body)?;
-    if got < body.len() {
-        return cut_off(out, tally);
-    }
-    Ok(Progress {
-        tally: tally.add(out, group_of(body), holds(body))?,
-        more: true,
-    })
-}
-
-// Room for the longest vector. The `ensures` gives only the length.
-fn longest_vector() -> [u8; 8192]
-    ensures { 8192 ≡ length result }
-{
-    [0; 8192]
-}
-
-// Reads and judges the next vector, if there is one.
-fn next<P: Print, F: Read>(out: &P, file: &mut F, tally: Tally) -> io::Result<Progress> {
+// Reads what stands next into the room; a vector that it has no room for is held to be cut off.
+fn read_next<'a, F: Read>(file: &mut F, room: &'a mut [u8]) -> io::Result<Next<'a>> {
     let mut head = [0u8; 2];
     let got = read_full(file, &mut head)?;
-    if got == 0 {
-        return Ok(Progress { tally, more: false });
+    if got < head.len() {
+        return Ok(if got == 0 { Next::End } else { Next::CutOff });
     }
-    if got == 1 {
-        return cut_off(out, tally);
+    let length = usize::from(u16::from_be_bytes(head));
+    let Some(body) = room.get_mut(..length) else {
+        return Ok(Next::CutOff);
+    };
+    if read_full(file, body)? < length {
+        return Ok(Next::CutOff);
     }
-    let length = short_at(&head, 0);
-    if length > LONGEST {
-        return cut_off(out, tally);
-    }
-    let mut body = longest_vector();
-    judge(out, file, tally, &mut body[0..length])
+    Ok(Next::Vector(body))
 }
 
-// A proved loop has to end, and nothing says that a file does: the turns are counted down from a number that no run uses up.
-fn read_all<P: Print, F: Read>(out: &P, file: &mut F) -> io::Result<Tally> {
-    let mut tally = Tally::none();
-    let mut turns = u64::MAX;
-    loop {
-        if turns == 0 {
-            break;
-        }
-        let progress = next(out, file, tally)?;
-        tally = progress.tally;
-        if progress.more {
-            turns -= 1;
-        } else {
-            break;
+// A proved loop has to end, and nothing says that a file does: the turns are more than any run uses up.
+fn judge_all<P: Print, F: Read, J: Judge>(
+    out: &P,
+    file: &mut F,
+    room: &mut [u8],
+    judge: &mut J,
+) -> io::Result<()> {
+    for _ in 0..u64::MAX {
+        match read_next(file, room)? {
+            Next::Vector(vector) => judge.judge(out, vector)?,
+            Next::CutOff => return judge.cut_off(out),
+            Next::End => return Ok(()),
         }
     }
-    Ok(tally)
+    Ok(())
 }
 
-// Judges all vectors of a file and writes the report to standard output; that the file cannot be opened is told on standard error.
-pub fn judge_file(rt: &HostRuntime, name: &[u8]) -> io::Result<()> {
+// Judges all vectors of a file, each in a room of the most bytes that one may have, and writes the report to standard output; that the
+// file cannot be opened is told on standard error.
+pub fn judge_file<J: Judge>(
+    rt: &HostRuntime,
+    name: &[u8],
+    room: &mut [u8],
+    mut judge: J,
+) -> io::Result<()> {
     match open_read(rt, name) {
-        Ok(mut file) => read_all(rt, &mut file)?.write(rt),
+        Ok(mut file) => {
+            judge_all(rt, &mut file, room, &mut judge)?;
+            judge.report(rt)
+        }
         Err(error) => fail(&rt.stderr(), name, error),
     }
 }

@@ -3,6 +3,7 @@
 pub mod expected;
 pub mod file;
 pub mod given;
+mod group;
 pub mod histories;
 pub mod mixes;
 pub mod part;

@@ -1,66 +1,85 @@
 // Parts of a vector, for any position: past the end a part is empty and a number is 0.
-ghost use Rattle.std.specs.Prelude.{◌≡◌, ◌<◌, length};
+ghost use Rattle.std.specs.Prelude.{◌≡◌, ◌+◌, ◌*◌, ◌<◌, ◌↔◌, IsTrue, EachIndex, slice_index, take, drop};
+ghost use Rattle.wire.specs.Bytes.{byte};
 
 use wire::byte::byte_at;
 
-// The number of a byte.
-pub(crate) fn wide(n: u8) -> usize
-    ensures { result ≡ n }
-{
-    n as usize
+// Bytes as they are read out of a vector.
+pub trait Parts<'a> {
+    // The bytes from a place on.
+    fn rest(self, at: usize) -> &'a [u8];
+
+    // The first n bytes, or all where there are fewer.
+    fn front(self, n: usize) -> &'a [u8];
+
+    // The number of the byte at a place.
+    fn number_at(self, at: usize) -> usize;
+
+    // The number in the two bytes at a place.
+    fn short_at(self, at: usize) -> usize;
+
+    // The number in the four bytes at a place.
+    fn long_at(self, at: usize) -> usize;
+
+    // Whether these bytes stand at the front, and past the end zeros.
+    fn begins(self, bytes: &[u8]) -> bool;
 }
 
-// The number of a byte at a place.
-pub(crate) fn number_at(s: &[u8], at: usize) -> usize
-    ensures { result < 256 }
-{
-    wide(byte_at(s, at))
-}
-
-// The sum; the largest number where the sum is larger.
-pub(crate) fn sum(a: usize, b: usize) -> usize {
-    if a <= usize::MAX - b {
-        a + b
-    } else {
-        usize::MAX
+impl<'a> Parts<'a> for &'a [u8] {
+    fn rest(self, at: usize) -> &'a [u8]
+        ensures { result.now ≡ drop at self.now }
+    {
+        self.get(at..).unwrap_or(&[])
     }
-}
 
-// 256 bytes of one number: room for any buffer of a vector. The `ensures` gives only the length.
-pub(crate) fn filled(fill: u8) -> [u8; 256]
-    ensures { 256 ≡ length result }
-{
-    [fill; 256]
-}
+    fn front(self, n: usize) -> &'a [u8]
+        ensures { result.now ≡ take n self.now }
+    {
+        self.get(..n).unwrap_or(self)
+    }
 
-// The bytes from a place on.
-pub(crate) fn rest(s: &[u8], at: usize) -> &[u8] {
-    if at <= s.len() { &s[at..] } else { &s[..0] }
-}
+    fn number_at(self, at: usize) -> usize
+        ensures number { result ≡ byte self.now at }
+        ensures bound { result < 256 }
+    {
+        usize::from(byte_at(self, at))
+    }
 
-// The first n bytes, or all where there are fewer.
-pub(crate) fn front(s: &[u8], n: usize) -> &[u8] {
-    if n <= s.len() { &s[0..n] } else { s }
+    fn short_at(self, at: usize) -> usize
+        ensures number { result ≡ byte (drop at self.now) 0 * 256 + byte (drop at self.now) 1 }
+        ensures bound { result < 65536 }
+    {
+        let bytes = self.rest(at);
+        let high = bytes.number_at(0);
+        let low = bytes.number_at(1);
+        high * 256 + low
+    }
+
+    fn long_at(self, at: usize) -> usize
+        ensures number { result ≡ ((byte (drop at self.now) 0 * 256 + byte (drop at self.now) 1) * 256
+            + byte (drop at self.now) 2) * 256 + byte (drop at self.now) 3 }
+    {
+        let bytes = self.rest(at);
+        ((bytes.number_at(0) * 256 + bytes.number_at(1)) * 256 + bytes.number_at(2)) * 256
+            + bytes.number_at(3)
+    }
+
+    fn begins(self, bytes: &[u8]) -> bool
+        ensures { IsTrue result ↔ EachIndex bytes.now (λ k. slice_index bytes.now k ≡ byte self.now k) }
+    {
+        bytes
+            .iter()
+            .enumerate()
+            .all(|(i, byte)| *byte == byte_at(self, i))
+    }
 }
 
 // The bytes that the length in the first byte announces.
 pub(crate) fn announced(s: &[u8]) -> &[u8] {
-    front(rest(s, 1), number_at(s, 0))
+    s.rest(1).front(s.number_at(0))
 }
 
 // What stands after them.
 pub(crate) fn beyond(s: &[u8]) -> &[u8] {
-    rest(s, 1 + number_at(s, 0))
-}
-
-// The number in two bytes at a place.
-pub(crate) fn short_at(s: &[u8], at: usize) -> usize
-    ensures { result < 65536 }
-{
-    number_at(s, at) * 256 + number_at(s, sum(at, 1))
-}
-
-// The number in four bytes at a place.
-pub(crate) fn long_at(s: &[u8], at: usize) -> usize {
-    short_at(s, at) * 65536 + short_at(s, sum(at, 2))
+    s.rest(1 + s.number_at(0))
 }

@@ -2,18 +2,16 @@
 //
 // A body is its group, its operation, and what the list of operations says: what is given and, after a semicolon, what is
 // expected. A state is the 41 bytes of an A2 image after its kind; a number of several bytes has its high byte first.
+use crate::group::Group;
 use crate::histories::history_holds;
 use crate::mixes::mixes_hold;
-use crate::part::rest;
 use crate::rescues::rescue_holds;
-use crate::runs::{long_run_holds, parts_hold, run_holds};
-use crate::single::{
-    default_holds, load_a2_holds, load_holds, start_holds, step_holds, store_a1_holds, store_holds,
-};
+use crate::runs::{long_run_holds, run_holds, runs_as};
+use crate::single::{default_holds, load_holds, start_holds, step_holds, store_holds};
+use crate::turns::turns_are;
+use image::read::{read_a2, read_image};
+use image::write::{write_a1, write_a2};
 use wire::byte::byte_at;
-
-// The groups are 1 to 13.
-const GROUPS: u8 = 13;
 
 // X numbers (2), tries; code, state
 const COLD_START: u8 = 1;
@@ -52,38 +50,39 @@ const LOAD_A2: u8 = 11;
 // length (1), bytes; code, count, the fields, the bytes at exit
 const RESCUE: u8 = 12;
 
-// as RUN, without the code and the totals: taken and applied in turn
+// as RUN, without the code and the totals: taken and applied in turn; what is wrong for both would else be seen in neither
 const PARTS: u8 = 13;
 
-// The group of a vector; 0 where no group has that number.
-pub(crate) fn group_of(body: &[u8]) -> u8 {
-    let group = byte_at(body, 0);
-    if group <= GROUPS { group } else { 0 }
+// The group of a vector, if one has its number.
+pub(crate) fn group_of(body: &[u8]) -> Option<Group> {
+    Group::numbered(byte_at(body, 0))
 }
 
 fn operation_holds(operation: u8, s: &[u8]) -> bool {
     match operation {
         COLD_START => start_holds(s),
         STEP => step_holds(s),
-        STORE => store_holds(s),
-        LOAD => load_holds(s),
-        RUN => run_holds(s),
+        STORE => store_holds(s, write_a2),
+        LOAD => load_holds(s, read_image),
+        RUN => run_holds(s, runs_as),
         LONG_RUN => long_run_holds(s),
         HISTORY => history_holds(s),
         MIXES => mixes_hold(s),
         DEFAULT_START => default_holds(s),
-        STORE_A1 => store_a1_holds(s),
-        LOAD_A2 => load_a2_holds(s),
+        STORE_A1 => store_holds(s, write_a1),
+        LOAD_A2 => load_holds(s, read_a2),
         RESCUE => rescue_holds(s),
-        PARTS => parts_hold(s),
+        PARTS => run_holds(s, turns_are),
         _ => false,
     }
 }
 
 // Whether a vector holds; one of no group, of an unknown operation, cut off or with bytes left over does not.
 pub(crate) fn holds(body: &[u8]) -> bool {
-    if group_of(body) == 0 {
-        return false;
+    match body {
+        [_, operation, given @ ..] if group_of(body).is_some() => {
+            operation_holds(*operation, given)
+        }
+        _ => false,
     }
-    operation_holds(byte_at(body, 1), rest(body, 2))
 }

@@ -8,7 +8,6 @@ use record::partner::Partner;
 use std::io;
 use unit::last::Last;
 use unit::state::{Marks, State, Train};
-use wire::byte::byte_at;
 
 fn partner(kind: u8, high: u8, middle: u8, low: u8) -> Partner {
     Partner {
@@ -49,26 +48,13 @@ fn mixed() -> State {
     }
 }
 
-fn print_byte<P: Print>(out: &P, b: u8) -> io::Result<()> {
-    print!(out; "{b:02x} ")
-}
-
-fn print_image<P: Print>(out: &P, image: &[u8]) -> io::Result<()> {
-    let mut i = 0;
-    while i < 37 {
-        print_byte(out, byte_at(image, i))?;
-        i += 1;
-    }
-    Ok(())
-}
-
 // Prints the image of a mixed state in hex, and the numbers that writing and reading it answer.
 pub(crate) fn image_of_mixed<P: Print>(out: &P) -> io::Result<()> {
     let mut buffer = [0u8; 37];
     let stored = write_a1(mixed(), &mut buffer);
-    print_image(out, &buffer)?;
+    for byte in buffer.iter() {
+        print!(out; "{byte:02x} ")?;
+    }
     let again = read_image(&buffer);
-    print_byte(out, stored.code)?;
-    print_byte(out, again.code)?;
-    println!(out)
+    println!(out; "{:02x} {:02x} ", stored.code, again.code)
 }

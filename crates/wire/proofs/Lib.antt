@@ -3,3 +3,4 @@ pub mod Blocks
 pub mod Padded
 pub mod Numbered
 pub mod OneAnswer
+pub mod Distinct

@@ -1,24 +1,11 @@
 -- No second answer satisfies the contract of a public function: a line for each of this crate's, over the contract as the checker names it.
--- Proves: word-once, long-once, byte-at-once, and-once, or_once, negated-once.
+-- Proves: byte-at-once, and-once, or_once, negated-once, number-once.
 use mathlib.Core.Path.{◌≡◌, sym, ◌∙◌}
-use Rattle.wire.proofs.byte.word.Reads as word
-use Rattle.wire.proofs.byte.long.Reads as long
 use Rattle.wire.proofs.byte.byte_at.Reads as byte_at
 use Rattle.wire.proofs.join.and.Reads as and
 use Rattle.wire.proofs.join.or.Reads as or
 use Rattle.wire.proofs.join.negated.Reads as negated
-
-pub word-once : (κ : _) (n : _) (r₁ : _) (r₂ : _)
-    → word.Post κ (n, tt) r₁ (n, tt)
-    → word.Post κ (n, tt) r₂ (n, tt)
-    → r₁ ≡ r₂
-word-once κ n r₁ r₂ p q = p ∙ sym q
-
-pub long-once : (κ : _) (n : _) (r₁ : _) (r₂ : _)
-    → long.Post κ (n, tt) r₁ (n, tt)
-    → long.Post κ (n, tt) r₂ (n, tt)
-    → r₁ ≡ r₂
-long-once κ n r₁ r₂ p q = p ∙ sym q
+use Rattle.wire.proofs.refusal.Refusal.number.Reads as number
 
 pub byte-at-once : (κ : _) (s : _) (i : _) (r₁ : _) (r₂ : _)
     → byte_at.Post κ (s, (i, tt)) r₁ (s, (i, tt))
@@ -43,3 +30,9 @@ pub negated-once : (κ : _) (a : _) (r₁ : _) (r₂ : _)
     → negated.Post κ (a, tt) r₂ (a, tt)
     → r₁ ≡ r₂
 negated-once κ a r₁ r₂ p q = p ∙ sym q
+
+pub number-once : (κ : _) (self : _) (r₁ : _) (r₂ : _)
+    → number.Post κ (self, tt) r₁ (self, tt)
+    → number.Post κ (self, tt) r₂ (self, tt)
+    → r₁ ≡ r₂
+number-once κ self r₁ r₂ p q = p ∙ sym q

@@ -3,3 +3,4 @@ pub mod Bytes
 pub mod Blocks
 pub mod Orders
 pub mod Sums
+pub mod Codes

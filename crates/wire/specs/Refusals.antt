@@ -1,8 +1,12 @@
 -- Document 01, "Numbers of refusal": the numbers of the core, each with its one name; 14 stands in `onsight`, 17 and 18 in `shunter`, 19 in
 -- `marks`.
 -- Defines: accepted, wrong_length, unknown_kind, out_of_range, not_in_force, has_place, has_none, not_taken, all_taken, call_from_riu,
--- no_room, not_sound, log_too_long, bad_limits, none_known, not_in_a1.
+-- no_room, not_sound, log_too_long, bad_limits, none_known, not_in_a1, number.
 use Rattle.std.specs.Prelude.{ℕ}
+use Rattle.wire.specs.declared.refusal.Refusal.{Refusal}
+use Rattle.wire.specs.declared.refusal.Refusal.TheVariants.{WrongLength, UnknownKind, OutOfRange, NotInForce, HasPlace, HasNone}
+use Rattle.wire.specs.declared.refusal.Refusal.TheVariants.{NotTaken, AllTaken, CallFromRiu, NoRoom, NotSound, LogTooLong}
+use Rattle.wire.specs.declared.refusal.Refusal.TheVariants.{BadLimits, NoneKnown, NotInA1}
 
 -- what an answer carries where nothing was refused
 abbrev pub accepted : ℕ
@@ -67,3 +71,21 @@ none_known = 15
 -- Q-4: "16, the state doesn't fit A1"
 abbrev pub not_in_a1 : ℕ
 not_in_a1 = 16
+
+-- "Each refusal has its number": of what the code calls a refusal
+abbrev pub number : Refusal → ℕ
+number WrongLength = wrong_length
+number UnknownKind = unknown_kind
+number OutOfRange = out_of_range
+number NotInForce = not_in_force
+number HasPlace = has_place
+number HasNone = has_none
+number NotTaken = not_taken
+number AllTaken = all_taken
+number CallFromRiu = call_from_riu
+number NoRoom = no_room
+number NotSound = not_sound
+number LogTooLong = log_too_long
+number BadLimits = bad_limits
+number NoneKnown = none_known
+number NotInA1 = not_in_a1

@@ -1,32 +1,68 @@
-// The numbers of refusal.
+// The refusals of the core with their numbers.
+ghost use Rattle.std.specs.Prelude.{◌≡◌};
+ghost use Rattle.wire.specs.Codes.{Numbers};
+ghost use Rattle.wire.specs.Refusals.{number};
+
+// What an answer carries where nothing was refused.
 pub const ACCEPTED: u8 = 0;
 
-pub const WRONG_LENGTH: u8 = 1;
+// Why a record, a state, an image, a log or a start is refused, in the order of the numbers.
+#[derive(Clone, Copy, Debug, PartialEq, Eq)]
+pub enum Refusal {
+    WrongLength = 1,
+    UnknownKind = 2,
+    OutOfRange = 3,
+    NotInForce = 4,
+    HasPlace = 5,
+    HasNone = 6,
+    NotTaken = 7,
+    AllTaken = 8,
+    CallFromRiu = 9,
+    NoRoom = 10,
+    NotSound = 11,
+    LogTooLong = 12,
+    BadLimits = 13,
+    NoneKnown = 15,
+    NotInA1 = 16,
+}
 
-pub const UNKNOWN_KIND: u8 = 2;
+impl Refusal {
+    // Its number.
+    pub fn number(self) -> u8
+        ensures { result ≡ number self }
+    {
+        self as u8
+    }
+}
 
-pub const OUT_OF_RANGE: u8 = 3;
+// A number that no refusal has.
+#[derive(Clone, Copy, Debug, PartialEq, Eq)]
+pub struct NoRefusal;
 
-pub const NOT_IN_FORCE: u8 = 4;
+impl TryFrom<u8> for Refusal {
+    type Error = NoRefusal;
 
-pub const HAS_PLACE: u8 = 5;
+    ghost try_from_gives = { Numbers };
 
-pub const HAS_NONE: u8 = 6;
-
-pub const NOT_TAKEN: u8 = 7;
-
-pub const ALL_TAKEN: u8 = 8;
-
-pub const CALL_FROM_RIU: u8 = 9;
-
-pub const NO_ROOM: u8 = 10;
-
-pub const NOT_SOUND: u8 = 11;
-
-pub const LOG_TOO_LONG: u8 = 12;
-
-pub const BAD_LIMITS: u8 = 13;
-
-pub const NONE_KNOWN: u8 = 15;
-
-pub const NOT_IN_A1: u8 = 16;
+    // The refusal that has this number.
+    fn try_from(number: u8) -> Result<Refusal, NoRefusal> {
+        match number {
+            1 => Ok(Refusal::WrongLength),
+            2 => Ok(Refusal::UnknownKind),
+            3 => Ok(Refusal::OutOfRange),
+            4 => Ok(Refusal::NotInForce),
+            5 => Ok(Refusal::HasPlace),
+            6 => Ok(Refusal::HasNone),
+            7 => Ok(Refusal::NotTaken),
+            8 => Ok(Refusal::AllTaken),
+            9 => Ok(Refusal::CallFromRiu),
+            10 => Ok(Refusal::NoRoom),
+            11 => Ok(Refusal::NotSound),
+            12 => Ok(Refusal::LogTooLong),
+            13 => Ok(Refusal::BadLimits),
+            15 => Ok(Refusal::NoneKnown),
+            16 => Ok(Refusal::NotInA1),
+            _ => Err(NoRefusal),
+        }
+    }
+}

@@ -16,8 +16,8 @@ use Rattle.wire.specs.Bytes.{byte}
 use Rattle.wire.proofs.Tests.{and_left, and_right, and_both, true-false}
 use Rattle.record.specs.Records.{known, length_of, reading}
 use Rattle.record.specs.Takes.{record_short, kind_unknown, take_one, on_taken}
-use Rattle.record.specs.declared.take.Taken.{Taken}
-use Rattle.record.specs.declared.take.Taken.TheVariants.{Whole, Stopped}
+use Rattle.record.specs.Takes.{Taken}
+use Rattle.record.specs.Takes.{Whole, Stopped}
 use Rattle.unit.specs.OnRecords.{bytes_of, action_bytes, on_record}
 use Rattle.unit.specs.declared.state.State.{State}
 use Rattle.unit.specs.declared.answer.Action.{Action}

@@ -14,7 +14,7 @@ use Rattle.wire.specs.Blocks.{blocks}
 use Rattle.wire.specs.Refusals.{accepted, no_room, log_too_long, bad_limits}
 use Rattle.wire.proofs.Tests.{cond-case}
 use Rattle.record.specs.Takes.{longest_log, take_one}
-use Rattle.record.specs.declared.take.Taken.TheVariants.{Stopped}
+use Rattle.record.specs.Takes.{Stopped}
 use Rattle.place.specs.declared.limits.Limits.{Limits}
 use Rattle.unit.specs.States.{limits_ok, cold}
 use Rattle.unit.specs.Runs as runs

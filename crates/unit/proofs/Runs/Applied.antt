@@ -1,19 +1,15 @@
 -- One record of a run, stepped on values: it is the step on the record's bytes.
--- Proves: applied-reading, refusal-numbered, applied-kept, applied-set, applied-noted.
-use mathlib.Core.Path.{◌≡◌, refl, sym, ap, subst, ◌∙◌}
+-- Proves: applied-reading, applied-kept, none-is, applied-set, applied-noted.
+use mathlib.Core.Path.{◌≡◌, refl, sym, ap, ◌∙◌}
 use mathlib.Core.Bool.{true, false}
 use mathlib.Core.List.{List}
 use Prim.Native.Nat.{ℕ, ◌≤◌}
 use native.Mathlib.Omega.{arith}
-use lib.Dec.{leb, lit≤}
+use lib.Dec.{lit≤}
 use lib.ListN.{length, set}
-use borrow.Author.Tests.{leb-true}
 use Rattle.record.specs.Records.{reading}
-use Rattle.record.specs.Ranges.{reading_ok}
-use Rattle.wire.specs.Refusals.{accepted, wrong_length, out_of_range}
-use Rattle.record.specs.declared.event.Reading.{Reading}
-use Rattle.record.specs.declared.event.Reading.TheVariants.{Refused}
-use Rattle.wire.proofs.Tests.{and_left}
+use Rattle.wire.specs.Refusals.{out_of_range, number}
+use Rattle.record.specs.Readings.{Reading}
 use Rattle.place.specs.declared.place.Place.{Place}
 use Rattle.unit.specs.States.{sound}
 use Rattle.unit.specs.Steps.{Outcome, refused_at, refused, closed, closing_actions}
@@ -27,6 +23,10 @@ use Rattle.unit.specs.Runs.{totalled, counted}
 use Rattle.unit.specs.Counting.{tally_of, accepted_rest}
 use Rattle.unit.specs.declared.run.Tally.{Tally}
 use Rattle.unit.specs.declared.run.Rest.{Rest}
+use Rattle.std.specs.Prelude.{Option, None, Some, is_some}
+use Rattle.wire.specs.declared.refusal.Refusal.{Refusal}
+use Rattle.wire.proofs.Distinct.{refused-some}
+use Rattle.wire.proofs.Tests.{true-false}
 use Rattle.unit.proofs.Runs.Tallies.{totalled_none, counted-made, counted-kept}
 
 module _ (s : State) (bytes : List ℕ) (good : sound s ≡ true) (r : Reading) (means : r ≡ reading bytes) where
@@ -34,21 +34,23 @@ module _ (s : State) (bytes : List ℕ) (good : sound s ≡ true) (r : Reading) 
   pub applied-reading : on_record s bytes action_room ≡ on_reading s r
   applied-reading = on-reading s bytes action_room (lit≤ tt) r good (sym means)
 
--- a reading's refusal has a number
-pub refusal-numbered : (r : Reading) (code : ℕ) → reading_ok r ≡ true → r ≡ Refused code → code ≡ accepted → ⊥
-refusal-numbered r code fine is-refused none =
-    let ok : reading_ok (Refused code) ≡ true = subst (λ x. reading_ok x ≡ true) is-refused fine in
-    let number = leb-true wrong_length code (and_left (leb wrong_length code) (leb code out_of_range) ok) in
-    omega arith
-
 -- a change that was refused, counted
 pub applied-kept : (t : Tally) (k : ℕ) (c : Change) (o : Outcome)
     → carried t.state c ≡ o
-    → (c.code ≡ accepted → ⊥)
+    → is_some c.refusal ≡ true
     → counted t k (refused out_of_range t.state) ≡ counted t k o
-applied-kept t k c o is other =
-    let refusing = carried-refused t.state c (omega (arith, other)) in
-    counted-kept t k (refused_at c.code c.standing t.state) other refl refl ∙ ap (counted t k) (sym refusing ∙ is)
+applied-kept t k c o is refusing = by c.refusal refl refusing
+  where
+    by : (r : Option Refusal) → c.refusal ≡ r → is_some r ≡ true → counted t k (refused out_of_range t.state) ≡ counted t k o
+    by None none some = true-false _ some refl
+    by (Some r) one some =
+        counted-kept t k (refused_at (number r) c.standing t.state) (λ none. omega (arith, refused-some r)) refl refl
+        ∙ ap (counted t k) (sym (carried-refused t.state c r one) ∙ is)
+
+-- a change that is no refusal
+pub none-is : (r : Option Refusal) → is_some r ≡ false → r ≡ None
+none-is None none = refl
+none-is (Some r) none = true-false _ refl none
 
 -- one that was accepted: none closed, and a place set or none
 module _ (r : Rest) (ps : List Place) (c : Change) (nothing-closed : closes_any c.which ≡ false) where

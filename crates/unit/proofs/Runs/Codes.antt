@@ -13,7 +13,7 @@ use Rattle.record.specs.Records.{row_of}
 use Rattle.record.specs.Rows.{fields}
 use Rattle.wire.specs.Refusals as refusal
 use Rattle.record.specs.declared.event.Event.{Event}
-use Rattle.record.specs.declared.event.Reading.TheVariants.{Meant, Refused}
+use Rattle.record.specs.Readings.{Meant, Refused}
 use Rattle.wire.proofs.Tests.{and_both, cond-case, cond-holds}
 use Rattle.unit.specs.States.{sound}
 use Rattle.unit.specs.Steps.{Outcome, step}
@@ -27,8 +27,8 @@ use Rattle.unit.specs.Runs.{Course, stops, applies, course, fresh, go, run_refus
 use Rattle.unit.specs.RunWords.{steps_of, steps}
 use Rattle.unit.specs.RunWords.{run_code, all_codes}
 use Rattle.unit.specs.declared.run.Report.{Report}
-use Rattle.record.specs.declared.take.Taken.{Taken}
-use Rattle.record.specs.declared.take.Taken.TheVariants as front
+use Rattle.record.specs.Takes.{Taken}
+use Rattle.record.specs.Takes as front
 use Rattle.unit.proofs.Runs.Applied.{applied-reading}
 use Rattle.unit.proofs.Runs.Going.{whole-ok}
 use Rattle.record.proofs.Takes.{part-reads, taken-short}
@@ -95,7 +95,7 @@ steps-codes (suc budget) s (x ∷ log) good small =
         → ((k : ℕ) → all_codes (steps budget (next k).state (drop k (x ∷ log))) ≡ true)
         → all_codes (steps_of (on_taken found stops on)) ≡ true
     by (front.Stopped stop) e rest = refl
-    by (front.Refused r) e rest = refl
+    by (front.Overlong r) e rest = refl
     by (front.Whole k r) e rest =
         let bytes = take k (x ∷ log) in
         let below : 0 < length (x ∷ log) = omega arith in

@@ -23,9 +23,9 @@ use Rattle.unit.specs.Runs.{counted, go}
 use Rattle.unit.specs.Counting.{Bounded}
 use Rattle.unit.specs.declared.run.Tally.{Tally}
 use Rattle.unit.specs.declared.run.Report.{Report}
-use Rattle.record.specs.declared.event.Reading.{Reading}
-use Rattle.record.specs.declared.take.Taken.{Taken}
-use Rattle.record.specs.declared.take.Taken.TheVariants.{Whole, Stopped, Refused}
+use Rattle.record.specs.Readings.{Reading}
+use Rattle.record.specs.Takes.{Taken}
+use Rattle.record.specs.Takes.{Whole, Stopped, Overlong}
 use Rattle.unit.proofs.Runs.Tallies.{bounded-next}
 use Rattle.unit.proofs.Runs.Takes.{go_step}
 use Rattle.unit.proofs.Runs.Applied.{applied-reading}
@@ -35,7 +35,7 @@ abbrev WholeOk : List ℕ → ℕ → Taken → Type 0
 WholeOk log at (Whole k r) =
     (k ≡ length_of (get_or log at 0)) × (1 ≤ k) × (k ≤ length log - at) × (r ≡ reading (take k (drop at log)))
 WholeOk log at (Stopped stop) = Unit
-WholeOk log at (Refused r) = Unit
+WholeOk log at (Overlong r) = Unit
 
 pub whole-ok : (log : List ℕ) (at k : ℕ) (r : Reading)
     → at < length log

@@ -21,9 +21,9 @@ use Rattle.unit.specs.RunWords.{taken_up}
 use Rattle.unit.specs.declared.state.State.{State}
 use Rattle.unit.specs.declared.run.Tally.{Tally}
 use Rattle.unit.specs.declared.run.Report.{Report}
-use Rattle.record.specs.declared.event.Reading.{Reading}
-use Rattle.record.specs.declared.take.Taken.{Taken}
-use Rattle.record.specs.declared.take.Taken.TheVariants.{Whole, Stopped, Refused}
+use Rattle.record.specs.Readings.{Reading}
+use Rattle.record.specs.Takes.{Taken}
+use Rattle.record.specs.Takes.{Whole, Stopped, Overlong}
 use Rattle.unit.proofs.Runs.Takes.{go-stop, go-refused, go_step}
 use Rattle.unit.proofs.Sound.{on_record-sound}
 use Rattle.unit.proofs.Runs.Starting.{run_sound}
@@ -185,7 +185,7 @@ go-split (suc m) b t log =
         sym (go-stop t (suc (m + suc b)) (some (m + suc b)) log stop e)
         ∙ go-stop t (suc b) (some b) log stop e
         ∙ from-here b t (go (suc m) t log).tally log end
-    by (Refused r) e later =
+    by (Overlong r) e later =
         let end = ap (λ x. x.tally) (sym (go-refused t (suc m) (some m) log r e)) in
         sym (go-refused t (suc (m + suc b)) (some (m + suc b)) log r e)
         ∙ go-refused t (suc b) (some b) log r e
@@ -234,7 +234,7 @@ go-sound (suc b) t log good = by (taken log) refl (go-sound b)
         → ((u : Tally) (l : List ℕ) → sound u.state ≡ true → sound (go b u l).tally.state ≡ true)
         → sound (go (suc b) t log).tally.state ≡ true
     by (Stopped stop) e later = ap (λ r. sound r.tally.state) (sym (go-stop t (suc b) (some b) log stop e)) ∙ good
-    by (Refused r) e later = ap (λ x. sound x.tally.state) (sym (go-refused t (suc b) (some b) log r e)) ∙ good
+    by (Overlong r) e later = ap (λ x. sound x.tally.state) (sym (go-refused t (suc b) (some b) log r e)) ∙ good
     by (Whole k r) e later =
         let o = on_record t.state (take k log) action_room in
         let kept = on_record-sound t.state (take k log) action_room good in

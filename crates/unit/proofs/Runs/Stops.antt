@@ -14,8 +14,8 @@ use Rattle.wire.specs.Refusals as refusal
 use Rattle.wire.proofs.Tests.{cond-case}
 use Rattle.record.specs.Records.{known, length_of, reading}
 use Rattle.record.specs.Takes.{record_short, kind_unknown, longest_log, take_one, taken}
-use Rattle.record.specs.declared.take.Taken.{Taken}
-use Rattle.record.specs.declared.take.Taken.TheVariants.{Whole, Stopped, Refused}
+use Rattle.record.specs.Takes.{Taken}
+use Rattle.record.specs.Takes.{Whole, Stopped, Overlong}
 use Rattle.record.proofs.Takes.{taken-short}
 use Rattle.unit.specs.States.{sound}
 use Rattle.unit.specs.OnRecords.{action_room, on_record}
@@ -55,7 +55,7 @@ stopped_by budget read stop (kind ∷ rest) left e =
         inr (left, inl (sym same, is))
 
 -- a log that is short enough is not refused
-not-refused : (log : List ℕ) (r : ℕ) → take_one log ≡ Refused r → ⊥
+not-refused : (log : List ℕ) (r : ℕ) → take_one log ≡ Overlong r → ⊥
 unfolding take_one
 not-refused [] r e = absurd (let z : ◌≡◌ {A = ℕ} 0 1 = cc in omega arith)
 not-refused (kind ∷ rest) r e = by (known kind) (leb (length_of kind) (length (kind ∷ rest))) e
@@ -63,7 +63,7 @@ not-refused (kind ∷ rest) r e = by (known kind) (leb (length_of kind) (length 
     whole : Taken
     whole = Whole (length_of kind) (reading (take (length_of kind) (kind ∷ rest)))
 
-    by : (a b : Bool) → cond a (cond b whole (Stopped record_short)) (Stopped kind_unknown) ≡ Refused r → ⊥
+    by : (a b : Bool) → cond a (cond b whole (Stopped record_short)) (Stopped kind_unknown) ≡ Overlong r → ⊥
     by true true e = absurd (let z : ◌≡◌ {A = ℕ} 0 1 = cc in omega arith)
     by true false e = absurd (let z : ◌≡◌ {A = ℕ} 0 1 = cc in omega arith)
     by false b e = absurd (let z : ◌≡◌ {A = ℕ} 0 1 = cc in omega arith)
@@ -93,7 +93,7 @@ go-stops (suc budget) t log small = by (taken log) refl (go-stops budget)
         subst (Stands (suc budget) t log) (go-stop t (suc budget) (some budget) log stop e)
         (subst (StopsBy (t.read + suc budget) t.read stop) (sym (here t log))
         (stopped_by (t.read + suc budget) t.read stop log (omega arith) (sym (taken-short log small) ∙ e)))
-    by (Refused r) e later = absurd (not-refused log r (sym (taken-short log small) ∙ e))
+    by (Overlong r) e later = absurd (not-refused log r (sym (taken-short log small) ∙ e))
     by (Whole k r) e later =
         let o = on_record t.state (take k log) action_room in
         let u = counted t k o in

@@ -12,9 +12,9 @@ use borrow.Author.Tests.{leb-true}
 use Rattle.wire.specs.Refusals.{log_too_long}
 use Rattle.record.specs.Records.{known, length_of, reading}
 use Rattle.record.specs.Takes.{nothing_left, budget_used, record_short, kind_unknown, longest_log, take_one, taken}
-use Rattle.record.specs.declared.event.Reading.{Reading}
-use Rattle.record.specs.declared.take.Taken.{Taken}
-use Rattle.record.specs.declared.take.Taken.TheVariants.{Whole, Stopped, Refused}
+use Rattle.record.specs.Readings.{Reading}
+use Rattle.record.specs.Takes.{Taken}
+use Rattle.record.specs.Takes.{Whole, Stopped, Overlong}
 use Rattle.unit.specs.OnRecords.{action_room, on_record}
 use Rattle.unit.specs.Runs.{course, counted, ended, tallied, go}
 use Rattle.unit.specs.declared.run.Tally.{Tally}
@@ -43,7 +43,7 @@ pub whole-fits : (rest : List ℕ) (k : ℕ) (r : Reading) → taken rest ≡ Wh
 unfolding taken
 whole-fits rest k r = by (leb (length rest) longest_log)
   where
-    by : (b : Bool) → cond b (take_one rest) (Refused log_too_long) ≡ Whole k r → k ≤ length rest
+    by : (b : Bool) → cond b (take_one rest) (Overlong log_too_long) ≡ Whole k r → k ≤ length rest
     by true e = one-fits rest k r e
     by false e = absurd (let z : ◌≡◌ {A = ℕ} 0 1 = cc in omega arith)
 
@@ -75,7 +75,7 @@ module _ (t : Tally) where
   pub go-refused : (budget : ℕ)
       → (budget ≡ 0 → ⊥)
       → (rest : List ℕ) (r : ℕ)
-      → taken rest ≡ Refused r
+      → taken rest ≡ Overlong r
       → ended t r ≡ go budget t rest
   unfolding course tallied
   go-refused zero some rest r e = absurd (some refl)

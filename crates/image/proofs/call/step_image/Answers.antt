@@ -11,8 +11,10 @@ pub returns-then-actions-lt-ACTION_ROOM : goal.returns-then-actions-lt-ACTION_RO
 returns-then-actions-lt-ACTION_ROOM c =
     let image = c.args.image.now in
     let actions = c.args.actions.now in
-    call-nothing _ image actions 10 _ (on_image-no-room image c.args.bytes.now (length actions) c.if-actions-lt-ACTION_ROOM.true)
-    (λ h. absurd (omega arith))
+    let nothing = call-nothing _ image actions 10 _
+    (on_image-no-room image c.args.bytes.now (length actions) c.if-actions-lt-ACTION_ROOM.true)
+    (λ h. absurd (omega arith)) in
+    ((λ i. record { code = c.number.ensures i; count = 0 }) ∙ nothing.0, nothing.1, nothing.2)
 
 pub returns-then-held-ne-ACCEPTED : goal.returns-then-held-ne-ACCEPTED
 returns-then-held-ne-ACCEPTED c =

@@ -35,18 +35,18 @@ pub last_spelt-requires : goal.last_spelt-requires
 unfolding state_in
 last_spelt-requires c = (c.requires.0, ap (λ (s : State). s.last) c.requires.1)
 
-pub returns-then-last_spelt : goal.returns-then-last_spelt
-returns-then-last_spelt c =
-    let marks = sym c.marks_spelt.ensures ∙ c.if-marks_spelt.true in
-    let last = sym c.last_spelt.ensures ∙ c.if-last_spelt.true in
+pub returns : goal.returns
+returns c =
+    let marks = sym c.marks_spelt.ensures ∙ c.if-not-marks_spelt.false in
+    let last = sym c.last_spelt.ensures ∙ c.if-not-last_spelt.false in
     c.places_spelt.ensures ∙ sym (ended c.args.body.now c.requires.0 c.args.state c.requires.1 marks true last)
 
-pub returns-else-last_spelt : goal.returns-else-last_spelt
-returns-else-last_spelt c =
-    let marks = sym c.marks_spelt.ensures ∙ c.if-marks_spelt.true in
-    let last = sym c.last_spelt.ensures ∙ c.if-last_spelt.false in
+pub returns-then-not-last_spelt : goal.returns-then-not-last_spelt
+returns-then-not-last_spelt c =
+    let marks = sym c.marks_spelt.ensures ∙ c.if-not-marks_spelt.false in
+    let last = sym c.last_spelt.ensures ∙ c.if-not-last_spelt.true in
     sym (ended c.args.body.now c.requires.0 c.args.state c.requires.1 marks false last)
 
-pub returns-else-marks_spelt : goal.returns-else-marks_spelt
-returns-else-marks_spelt c =
-    sym (marked c.args.body.now c.requires.0 false (sym c.marks_spelt.ensures ∙ c.if-marks_spelt.false))
+pub returns-then-not-marks_spelt : goal.returns-then-not-marks_spelt
+returns-then-not-marks_spelt c =
+    sym (marked c.args.body.now c.requires.0 false (sym c.marks_spelt.ensures ∙ c.if-not-marks_spelt.true))

@@ -8,8 +8,4 @@ use Rattle.image.proofs.read.places_spelt.Given as goal
 abbrev pub invariant-loop-i : goal.invariant-loop-i
 invariant-loop-i l =
     (l.i ≤ place_count)
-    × (l.at ≡ head_size + place_size * l.i)
-    × (PlacesSpelt place_count (drop head_size l.body) ≡ PlacesSpelt (place_count - l.i) (drop l.at l.body))
-
-abbrev pub decreases-loop-i : goal.decreases-loop-i
-decreases-loop-i l = 4 - l.i
+    × (PlacesSpelt place_count (drop head_size l.body) ≡ PlacesSpelt (place_count - l.i) (drop (head_size + place_size * l.i) l.body))

@@ -4,4 +4,4 @@ use Rattle.image.proofs.read.refused.Goals as goal
 
 pub returns : goal.returns
 unfolding cold_start
-returns c = λ i. record { code = c.args.code; state = (c.cold_start-start.ensures i).state }
+returns c = λ i. record { code = c.number.ensures i; state = (c.cold_start-start.ensures i).state }

@@ -16,5 +16,5 @@ returns c old n field own so_far =
     number-next old n at field image fields c.args.count image-after fields-after call.result so_far c.args.most own
     (subst
     (λ k. Cleared (leb (byte image k) c.args.most) at 1 image fields c.args.count image-after fields-after call.result)
-    c.wide.ensures
+    c.from.ensures
     call.ensures)

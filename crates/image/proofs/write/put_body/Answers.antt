@@ -1,5 +1,5 @@
 -- The kind and the head, then the places passed, then what stood there.
-use Rattle.std.proofs.Common.{◌≡◌, refl, sym, ap, ◌∙◌, ◌≤◌, length, get_or, arith}
+use Rattle.std.proofs.Common.{ℕ, ◌+◌, ◌*◌, ◌≡◌, refl, sym, ap, ◌∙◌, ◌≤◌, length, get_or, arith}
 use lib.ListN.{take-append-drop}
 use lib.Seq.{sets, length-sets}
 use Rattle.wire.specs.Blocks.{blocks}
@@ -11,9 +11,13 @@ use Rattle.image.proofs.Bytes.{place_bytes-length}
 use Rattle.image.proofs.Putting.{body_end}
 use Rattle.image.proofs.write.put_body.Goals as goal
 
+-- where a place begins
+abbrev at : ℕ → ℕ
+at i = 9 + place_size * i
+
 pub loop-i-init : goal.loop-i-init
 unfolding blocks
-loop-i-init c = (omega arith, refl, refl, sym (take-append-drop 9 c.put_head.new.s))
+loop-i-init c = (omega arith, refl, sym (take-append-drop 9 c.put_head.new.s))
 
 pub loop-i-preserved : goal.loop-i-preserved
 loop-i-preserved c =
@@ -25,22 +29,22 @@ loop-i-preserved c =
     let room : 37 ≤ length buffer = omega (arith, c.requires.0, c.put_head.auto.s) in
     let seven = place_bytes (get_or places c.loop-i.i vacant) in (
       omega arith,
-      omega (arith, inv.1),
-      ap length stored ∙ length-sets c.loop-i.s c.loop-i.at seven ∙ inv.2,
+      ap length stored ∙ length-sets c.loop-i.s (at c.loop-i.i) seven ∙ inv.1,
       stored
-          ∙ ap (λ l. sets l c.loop-i.at seven) inv.3
-          ∙ filled_more place_bytes place_size (λ p. place_bytes-length p.holding) 9 places buffer c.loop-i.i c.loop-i.at
+          ∙ ap (λ l. sets l (at c.loop-i.i) seven) inv.2
+          ∙ filled_more place_bytes place_size (λ p. place_bytes-length p.holding) 9 places buffer c.loop-i.i (at c.loop-i.i)
           vacant
           (omega (arith, four))
-          inv.1
-          (omega (arith, room, inv.1)),
+          refl
+          (omega (arith, room))
+          ∙ ap (FilledTo place_bytes 9 places buffer (c.loop-i.i + 1)) (omega arith),
     )
 
 pub returns : goal.returns
 returns c =
     let state = c.args.state in
     let all : c.loop-i.i ≡ 4 = omega arith in
-    let end : c.loop-i.at ≡ 37 = omega (arith, c.loop-i.invariant.1) in
-    c.loop-i.invariant.3
+    let end : at c.loop-i.i ≡ 37 = omega (arith, all) in
+    c.loop-i.invariant.2
     ∙ (λ j. FilledTo place_bytes 9 state.places (c.put_head.ensures j) (all j) (end j))
     ∙ body_end state c.args.s.now (sound-facts state c.requires.1).four c.args.kind c.requires.0

@@ -11,7 +11,7 @@ unfolding stands_at
 overflow_add-at c =
     let right = sym c.is_right.ensures ∙ c.if-is_right.true in
     let fits =
-    due-fits (answer_kind ∷ c.args.code ∷ []) c.args.sheet.now c.args.at (rw c.answer_at-stands.ensures at right)
+    due-fits (answer_kind ∷ c.args.code ∷ []) c.args.sheet.now c.args.at (rw c.stands_at-stands.ensures at right)
     (omega arith) in
     omega arith
 
@@ -19,10 +19,10 @@ pub returns-then-is_right : goal.returns-then-is_right
 returns-then-is_right c =
     c.actions_at.ensures
     ∙ sym
-    (due-met (TheAnswer c.args.code) _ c.args.sheet.now c.args.at _ c.answer_at-stands.ensures
+    (due-met (TheAnswer c.args.code) _ c.args.sheet.now c.args.at _ c.stands_at-stands.ensures
     (sym c.is_right.ensures ∙ c.if-is_right.true))
 
 pub returns : goal.returns
 returns c =
-    due-fails (TheAnswer c.args.code) _ c.args.sheet.now c.args.at _ c.answer_at-stands.ensures
+    due-fails (TheAnswer c.args.code) _ c.args.sheet.now c.args.at _ c.stands_at-stands.ensures
     (sym c.is_right.ensures ∙ c.if-is_right.false)

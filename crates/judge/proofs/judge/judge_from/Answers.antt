@@ -15,7 +15,7 @@ returns-then-code-ne-ACCEPTED c =
 pub returns-then-sheet-gt-LONGEST_SHEET : goal.returns-then-sheet-gt-LONGEST_SHEET
 returns-then-sheet-gt-LONGEST_SHEET c =
     let code = ap (λ (s : Started). s.code) c.cold_start-started.ensures in
-    c.refused-then-sheet-gt-LONGEST_SHEET.ensures
+    c.refused-then-sheet-gt-LONGEST_SHEET.ensures ∙ ap judge_refused c.number.ensures
     ∙ judge-too-long c.args.limits c.args.sheet.now c.args.at (sym code ∙ c.if-code-ne-ACCEPTED.false)
     c.if-sheet-gt-LONGEST_SHEET.true
 

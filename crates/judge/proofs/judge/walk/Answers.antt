@@ -1,75 +1,84 @@
 -- The records passed stand right, with all that follows them.
-use Rattle.std.proofs.Common.{◌<◌, length, sym, ◌∙◌, arith}
+use Rattle.std.proofs.Common.{inl, ap, ◌≡◌, ◌+◌, ◌≤◌, ◌<◌, length, drop, sym, ◌∙◌, arith}
+use lib.Seq.{length-take-le}
+use Rattle.record.specs.Takes.{take_one}
+use Rattle.record.specs.Takes.{Whole}
 use Rattle.record.proofs.Takes.{part-is}
-use Rattle.judge.proofs.Walks.{judged-none, judged-turn, whole-fits, actions-fit, point-behind, judged-more, judged-fails}
+use Rattle.unit.specs.Forms.{most_actions}
+use Rattle.record.specs.Readings.{told_reading}
+use Rattle.record.specs.Stops.{stop_number, told_front}
+use Rattle.judge.proofs.Entries.{answer-few, sent-inside}
+use Rattle.judge.proofs.Walks.{judged-stop, whole-fits, point-behind, judged-more, judged-fails}
 use Rattle.judge.proofs.judge.walk.Goals as goal
-
-pub loop-stop-init : goal.loop-stop-init
-loop-stop-init c = judged-none c.args.sheet.now c.args.start c.args.from
+use Rattle.judge.proofs.judge.walk.Goals.{In-Next}
 
 -- nothing more is taken
-pub returns-in-Stopped : goal.returns-in-Stopped
-returns-in-Stopped c =
-    c.stopped.ensures ∙ judged-turn _ _ _ _ _ _ c.loop-stop.invariant _ (sym c.in-Stopped.is ∙ c.take_one.ensures)
-
-pub returns-in-Refused : goal.returns-in-Refused
-returns-in-Refused c =
-    c.stopped-in-Refused.ensures
-    ∙ judged-turn _ _ _ _ _ _ c.loop-stop.invariant _ (sym c.in-Refused.is ∙ c.take_one.ensures)
+pub returns-in-Stop : goal.returns-in-Stop
+returns-in-Stop c =
+    c.stopped.ensures
+    ∙ judged-stop _ _ _ _ _ _ c.loop-stop.invariant (stop_number c.in-Stop.stop) _ c.front_at.ensures
+    (inl (ap told_front c.in-Stop.is))
 
 -- a whole event record
+module _ (c : In-Next) where
+  whole : take_one (drop c.loop-stop.at c.args.sheet.now) ≡ Whole c.in-Next.length (told_reading c.in-Next.reading)
+  whole = sym c.front_at.ensures ∙ ap told_front c.in-Next.is
+
+  fits : (1 ≤ c.in-Next.length) × (c.loop-stop.at + c.in-Next.length ≤ length c.args.sheet.now)
+  fits =
+      whole-fits c.args.sheet.now _ _ c.loop-stop.state c.loop-stop.at c.loop-stop.records c.loop-stop.invariant c.in-Next.length
+      (told_reading c.in-Next.reading) whole
+
 pub overflow_add-end : goal.overflow_add-end
-overflow_add-end c =
-    let fits =
-    whole-fits c.args.sheet.now _ _ c.loop-stop.state c.loop-stop.at c.loop-stop.records c.loop-stop.invariant
-    c.in-Whole.length c.in-Whole.reading
-    (sym c.take_one.ensures ∙ c.in-Whole.is) in
-    omega (arith, fits.1)
+overflow_add-end c = let inside = fits (goal.at.overflow_add-end c).In-Next in omega (arith, inside.1)
 
 pub slice_bounds-on_record-end : goal.slice_bounds-on_record-end
-slice_bounds-on_record-end c =
-    (whole-fits c.args.sheet.now _ _ c.loop-stop.state c.loop-stop.at c.loop-stop.records c.loop-stop.invariant
-    c.in-Whole.length c.in-Whole.reading
-    (sym c.take_one.ensures ∙ c.in-Whole.is)).1
+slice_bounds-on_record-end c = (fits (goal.at.slice_bounds-on_record-end c).In-Next).1
 
--- the step on it
-pub dues_at-point-requires : goal.dues_at-point-requires
-dues_at-point-requires c =
-    actions-fit _ _ _ _ _ _ c.loop-stop.invariant _ _ (sym c.take_one.ensures ∙ c.in-Whole.is) _ _ _ _
-    (part-is c.args.sheet.now c.loop-stop.at c.in-Whole.length) c.on_record-stepped.ensures.0 c.on_record-stepped.ensures.1
+-- the step on it, its actions written to the buffer
+pub overflow_mul-sent : goal.overflow_mul-sent
+overflow_mul-sent c =
+    let few : c.on_record-stepped.result.count ≤ most_actions = answer-few c.loop-stop.state _ _ c.on_record-stepped.ensures.0 in
+    omega (arith, few)
+
+pub slice_bounds-buffer-end : goal.slice_bounds-buffer-end
+slice_bounds-buffer-end c =
+    sent-inside c.loop-stop.state _ _ c.on_record-stepped.ensures.0 _ _ c.on_record-stepped.ensures.1
+
+pub slice_bounds-dues_at-end : goal.slice_bounds-dues_at-end
+slice_bounds-dues_at-end c =
+    sym
+    (length-take-le _ c.on_record-stepped.new.actions
+    (sent-inside c.loop-stop.state _ _ c.on_record-stepped.ensures.0 _ _ c.on_record-stepped.ensures.1))
 
 -- and how far what is due behind it stands
 pub overflow_add-records : goal.overflow_add-records
 overflow_add-records c =
-    let fits =
-    whole-fits c.args.sheet.now _ _ c.loop-stop.state c.loop-stop.at c.loop-stop.records c.loop-stop.invariant
-    c.in-Whole.length c.in-Whole.reading
-    (sym c.take_one.ensures ∙ c.in-Whole.is) in
-    let below : c.loop-stop.records < length c.args.sheet.now = omega (arith, c.loop-stop.invariant.0, fits.0, fits.1) in
+    let inside = fits (goal.at.overflow_add-records c).In-Next in
+    let below : c.loop-stop.records < length c.args.sheet.now =
+    omega (arith, c.loop-stop.invariant.0, inside.0, inside.1) in
     omega (arith, below)
 
 pub loop-stop-smaller : goal.loop-stop-smaller
 loop-stop-smaller c =
-    let whole = sym c.take_one.ensures ∙ c.in-Whole.is in
-    let fits =
-    whole-fits c.args.sheet.now _ _ c.loop-stop.state c.loop-stop.at c.loop-stop.records c.loop-stop.invariant
-    c.in-Whole.length c.in-Whole.reading whole in
+    let taken = (goal.at.loop-stop-smaller c).In-Next in
+    let inside = fits taken in
     let behind =
-    point-behind _ _ _ _ _ _ c.loop-stop.invariant _ _ whole _ _ _ _
-    (part-is c.args.sheet.now c.loop-stop.at c.in-Whole.length) c.on_record-stepped.ensures.0 c.on_record-stepped.ensures.1 _
+    point-behind _ _ _ _ _ _ c.loop-stop.invariant _ _ (whole taken) _ _ _ _
+    (part-is c.args.sheet.now c.loop-stop.at c.in-Next.length) c.on_record-stepped.ensures.0 c.on_record-stepped.ensures.1 _
     c.dues_at-point.ensures in
-    omega (arith, behind, fits.0, fits.1)
+    omega (arith, behind, inside.0, inside.1)
 
 pub loop-stop-preserved : goal.loop-stop-preserved
 loop-stop-preserved c =
-    judged-more _ _ _ _ _ _ c.loop-stop.invariant _ _ (sym c.take_one.ensures ∙ c.in-Whole.is) _ _ _ _
-    (part-is c.args.sheet.now c.loop-stop.at c.in-Whole.length) c.on_record-stepped.ensures.0 c.on_record-stepped.ensures.1 _
+    judged-more _ _ _ _ _ _ c.loop-stop.invariant _ _ (whole (goal.at.loop-stop-preserved c).In-Next) _ _ _ _
+    (part-is c.args.sheet.now c.loop-stop.at c.in-Next.length) c.on_record-stepped.ensures.0 c.on_record-stepped.ensures.1 _
     c.dues_at-point.ensures
     (sym c.is_right.ensures ∙ c.if-is_right.true)
 
 pub returns-else-is_right : goal.returns-else-is_right
 returns-else-is_right c =
-    judged-fails _ _ _ _ _ _ c.loop-stop.invariant _ _ (sym c.take_one.ensures ∙ c.in-Whole.is) _ _ _ _
-    (part-is c.args.sheet.now c.loop-stop.at c.in-Whole.length) c.on_record-stepped.ensures.0 c.on_record-stepped.ensures.1 _
+    judged-fails _ _ _ _ _ _ c.loop-stop.invariant _ _ (whole (goal.at.returns-else-is_right c).In-Next) _ _ _ _
+    (part-is c.args.sheet.now c.loop-stop.at c.in-Next.length) c.on_record-stepped.ensures.0 c.on_record-stepped.ensures.1 _
     c.dues_at-point.ensures
     (sym c.is_right.ensures ∙ c.if-is_right.false)

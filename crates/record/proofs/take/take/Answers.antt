@@ -7,4 +7,4 @@ pub returns-then-log-gt-LONGEST_LOG : goal.returns-then-log-gt-LONGEST_LOG
 returns-then-log-gt-LONGEST_LOG c = sym (taken-long c.args.log.now c.if-log-gt-LONGEST_LOG.true)
 
 pub returns : goal.returns
-returns c = c.take_one.ensures ∙ sym (taken-short c.args.log.now c.if-log-gt-LONGEST_LOG.false)
+returns c = c.front_at.ensures ∙ sym (taken-short c.args.log.now c.if-log-gt-LONGEST_LOG.false)

@@ -1,5 +1,6 @@
 -- What is known after the actions of each move.
 use Rattle.std.proofs.Common.{◌≡◌, map, sym, ap, ◌∙◌}
+use mathlib.Core.Logic.{inl, inr}
 use Rattle.record.specs.declared.partner.Partner.{Partner}
 use Rattle.unit.specs.Lasts.{recalled_by, recalled}
 use Rattle.unit.specs.Steps.{act}
@@ -16,15 +17,15 @@ by l p told = ap (λ mv. recalled l (map (act p) (sent_in mv))) (sym told)
 
 pub returns-in-Stays : goal.returns-in-Stays
 unfolding recalled
-returns-in-Stays c = by c.args.last c.args.partner c.in-Stays.is
+returns-in-Stays c =
+    elim c.in-Stays.is [
+      | inl is ↦ by c.args.last c.args.partner is
+      | inr (set, tries, is) ↦ by c.args.last c.args.partner is
+    ]
 
 pub returns-in-Leaves : goal.returns-in-Leaves
 unfolding recalled
 returns-in-Leaves c = c.recall.ensures ∙ by c.args.last c.args.partner c.in-Leaves.is
-
-pub returns-in-Enters : goal.returns-in-Enters
-unfolding recalled
-returns-in-Enters c = by c.args.last c.args.partner c.in-Enters.is
 
 pub returns-in-Sends : goal.returns-in-Sends
 unfolding recalled

@@ -1,14 +1,14 @@
 -- By the modems that are free and by who waits.
+use Rattle.std.proofs.Common.{⊎_elim}
 use Rattle.shunter.proofs.CodeLines.{serve-none, serve-nobody, serve-one, serve-first, serve-both}
 use Rattle.shunter.proofs.step.serve.Goals as goal
 
 pub returns-then-free-eq0 : goal.returns-then-free-eq0
 returns-then-free-eq0 c acts ordered is few =
-    serve-none c.args.next.places acts c.args.out is c.args.line c.args.free ordered c.if-free-eq0.true
-
-pub returns-then-first-eq-NO_PLACE : goal.returns-then-first-eq-NO_PLACE
-returns-then-first-eq-NO_PLACE c acts ordered is few =
-    serve-nobody c.args.next.places acts c.args.out is c.args.line c.args.free ordered c.if-first-eq-NO_PLACE.true
+    let args = c.args in
+    ⊎_elim (serve-none args.next.places acts args.out is args.line args.free ordered)
+    (λ empty. serve-nobody args.next.places acts args.out is args.line args.free ordered empty.1)
+    c.then-free-eq0.either
 
 pub returns-then-second-eq-NO_PLACE : goal.returns-then-second-eq-NO_PLACE
 returns-then-second-eq-NO_PLACE c acts ordered is few =

@@ -1,11 +1,14 @@
 -- The records passed are the run so far.
-use Rattle.std.proofs.Common.{◌≡◌, ℕ, ◌+◌, ◌-◌, ◌≤◌, ◌<◌, true, List, length, set, drop, length-drop, refl, sym}
+use Rattle.std.proofs.Common.{None, ◌≡◌, ℕ, ◌+◌, ◌-◌, ◌≤◌, ◌<◌, true, List, length, set, drop, length-drop, refl}
+use Rattle.std.proofs.Common.{sym}
 use Rattle.std.proofs.Common.{ap, subst, ◌∙◌, arith}
-use Rattle.wire.specs.Refusals.{accepted}
+use Rattle.wire.specs.Refusals.{number}
+use Rattle.wire.proofs.Distinct.{refused-some}
 use Rattle.record.specs.Ranges.{reading_ok}
 use Rattle.record.specs.Takes.{longest_log, take_one}
-use Rattle.record.specs.declared.take.Taken.TheVariants.{Whole}
-use Rattle.record.specs.declared.event.Reading.{Reading}
+use Rattle.record.specs.Takes.{Whole}
+use Rattle.record.specs.Readings.{Reading, told_reading}
+use Rattle.record.specs.Stops.{told_front}
 use Rattle.unit.specs.States.{sound}
 use Rattle.unit.specs.Steps.{Outcome, refused, step}
 use Rattle.unit.specs.OnRecords.{on_reading}
@@ -18,7 +21,7 @@ use Rattle.unit.specs.declared.run.Tally.{Tally}
 use Rattle.unit.proofs.Facts.{sound-facts}
 use Rattle.unit.proofs.Settling.{carried-made}
 use Rattle.unit.proofs.Runs.Tallies.{below_more, counted-made, counted-refused, counted-kept}
-use Rattle.unit.proofs.Runs.Applied.{refusal-numbered, applied-kept, applied-set, applied-noted}
+use Rattle.unit.proofs.Runs.Applied.{applied-kept, none-is, applied-set, applied-noted}
 use Rattle.unit.proofs.Runs.Fronts.{front-stops, front-next}
 use Rattle.unit.proofs.Closings.{sent-closings}
 use Rattle.unit.proofs.Runs.Going.{whole_ready, run_on}
@@ -40,10 +43,10 @@ module _ (c : In-Next) where
   k = c.in-Next.length
 
   abbrev r : Reading
-  r = c.in-Next.reading
+  r = told_reading c.in-Next.reading
 
   stands : (0 < length log-left) × (t.read ≡ c.args.budget → ⊥) × (take_one log-left ≡ Whole k r)
-  stands = front-next t.read c.args.budget log-left k r (sym c.front.ensures ∙ c.in-Next.is)
+  stands = front-next t.read c.args.budget log-left k r (sym c.front.ensures ∙ ap told_front c.in-Next.is)
 
   under : t.offset < length log
   under =
@@ -81,17 +84,17 @@ module _ (c : In-Next) where
 pub refuse-rest-requires : goal.refuse-rest-requires
 refuse-rest-requires c = refusing (goal.at.refuse-rest-requires c).In-Next
 
-pub loop-stop-preserved-in-Refused : goal.loop-stop-preserved-in-Refused
-loop-stop-preserved-in-Refused c =
-    let first = (goal.at.loop-stop-preserved-in-Refused c).In-Next in
-    let number = c.in-Refused.field-0 in
+pub loop-stop-preserved-in-Err : goal.loop-stop-preserved-in-Err
+loop-stop-preserved-in-Err c =
+    let first = (goal.at.loop-stop-preserved-in-Err c).In-Next in
+    let refusal = c.in-Err.field-0 in
     let ps = c.loop-stop.places in
     again first (tally_of c.refuse-rest.result ps)
     (ap (λ x. tally_of x ps) c.refuse-rest.ensures
     ∙ counted-refused c.loop-stop.rest ps (k first)
-    ∙ counted-kept (t first) (k first) (refused number (t first).state) (refusal-numbered _ number (ready first).3 c.in-Refused.is) refl
+    ∙ counted-kept (t first) (k first) (refused (number refusal) (t first).state) (λ none. omega (arith, refused-some refusal)) refl
     refl
-    ∙ ap (λ x. counted (t first) (k first) (on_reading (t first).state x)) (sym c.in-Refused.is))
+    ∙ ap (λ x. counted (t first) (k first) (on_reading (t first).state x)) (sym (ap told_reading c.in-Err.is)))
 
 -- an event, and what it changes
 module _ (c : After-change-change) where
@@ -99,18 +102,18 @@ module _ (c : After-change-change) where
   so_far = tally_of c.loop-stop.rest c.loop-stop.places
 
   abbrev after : Outcome
-  after = on_reading so_far.state c.in-Next.reading
+  after = on_reading so_far.state (told_reading c.in-Next.reading)
 
   abbrev change : Change
   change = c.change-change.result
 
   carries : carried so_far.state change ≡ after
   carries =
-      subst (λ x. carried x change ≡ step x c.in-Meant.event) c.state.ensures c.change-change.ensures
-      ∙ sym (ap (on_reading so_far.state) c.in-Meant.is)
+      subst (λ x. carried x change ≡ step x c.in-Ok.event) c.state.ensures c.change-change.ensures
+      ∙ sym (ap (on_reading so_far.state) (ap told_reading c.in-Ok.is))
 
   -- that is made
-  makes : change.code ≡ accepted
+  makes : change.refusal ≡ None
       → counted so_far c.in-Next.length (made so_far.state change) ≡ counted so_far c.in-Next.length after
   makes taken = ap (counted so_far c.in-Next.length) (sym (carried-made so_far.state change taken) ∙ carries)
 
@@ -134,7 +137,7 @@ loop-stop-preserved-then-closes_any c =
     (c.seated-places.ensures ∙ ap (λ l. set l d.at d.place) c.close_places-closed.ensures.0)
     (c.add_all.ensures.0 ps (four first)
     ∙ ap (totalled rest.totals) (ap (sent_for ps) c.close_places-closed.ensures.1 ∙ sent-closings d.which ps))
-    ∙ makes known.After-change-change c.if-change-eq-ACCEPTED.true)
+    ∙ makes known.After-change-change (none-is _ (sym c.is_some.ensures ∙ c.if-is_some.false)))
 
 -- with a place set
 pub accept-rest-requires-then-to-lt-PLACES : goal.accept-rest-requires-then-to-lt-PLACES
@@ -150,36 +153,37 @@ loop-stop-preserved-then-to-lt-PLACES c =
     again first (tally_of c.accept-rest-then-to-lt-PLACES.result next)
     (ap (λ x. tally_of x next) c.accept-rest-then-to-lt-PLACES.ensures
     ∙ applied-set c.loop-stop.rest ps d (sym c.closes_any.ensures ∙ c.if-closes_any.false) (k first)
-    ∙ makes known.After-change-change c.if-change-eq-ACCEPTED.true)
+    ∙ makes known.After-change-change (none-is _ (sym c.is_some.ensures ∙ c.if-is_some.false)))
 
 -- with the train and the marks alone
 pub accept-rest-requires-else-to-lt-PLACES : goal.accept-rest-requires-else-to-lt-PLACES
 accept-rest-requires-else-to-lt-PLACES c = accepting (goal.at.accept-rest-requires-else-to-lt-PLACES c).In-Next
-
-pub loop-stop-preserved-else-to-lt-PLACES : goal.loop-stop-preserved-else-to-lt-PLACES
-loop-stop-preserved-else-to-lt-PLACES c =
-    let known = goal.at.loop-stop-preserved-else-to-lt-PLACES c in
-    let first = known.In-Next in
-    let ps = c.loop-stop.places in
-    again first (tally_of c.accept-rest-else-to-lt-PLACES.result ps)
-    (ap (λ x. tally_of x ps) c.accept-rest-else-to-lt-PLACES.ensures
-    ∙ applied-noted c.loop-stop.rest ps c.change-change.result (sym c.closes_any.ensures ∙ c.if-closes_any.false) (k first)
-    (omega (arith, four first, c.if-to-lt-PLACES.false))
-    ∙ makes known.After-change-change c.if-change-eq-ACCEPTED.true)
-
--- that is refused
-pub refuse-rest-requires-else-change-eq-ACCEPTED : goal.refuse-rest-requires-else-change-eq-ACCEPTED
-refuse-rest-requires-else-change-eq-ACCEPTED c = refusing (goal.at.refuse-rest-requires-else-change-eq-ACCEPTED c).In-Next
 
 pub loop-stop-preserved : goal.loop-stop-preserved
 loop-stop-preserved c =
     let known = goal.at.loop-stop-preserved c in
     let first = known.In-Next in
     let ps = c.loop-stop.places in
-    again first (tally_of c.refuse-rest-else-change-eq-ACCEPTED.result ps)
-    (ap (λ x. tally_of x ps) c.refuse-rest-else-change-eq-ACCEPTED.ensures
+    again first (tally_of c.accept-rest-else-to-lt-PLACES.result ps)
+    (ap (λ x. tally_of x ps) c.accept-rest-else-to-lt-PLACES.ensures
+    ∙ applied-noted c.loop-stop.rest ps c.change-change.result (sym c.closes_any.ensures ∙ c.if-closes_any.false) (k first)
+    (omega (arith, four first, c.if-to-lt-PLACES.false))
+    ∙ makes known.After-change-change (none-is _ (sym c.is_some.ensures ∙ c.if-is_some.false)))
+
+-- that is refused
+pub refuse-rest-requires-then-is_some : goal.refuse-rest-requires-then-is_some
+refuse-rest-requires-then-is_some c = refusing (goal.at.refuse-rest-requires-then-is_some c).In-Next
+
+pub loop-stop-preserved-then-is_some : goal.loop-stop-preserved-then-is_some
+loop-stop-preserved-then-is_some c =
+    let known = goal.at.loop-stop-preserved-then-is_some c in
+    let first = known.In-Next in
+    let ps = c.loop-stop.places in
+    again first (tally_of c.refuse-rest-then-is_some.result ps)
+    (ap (λ x. tally_of x ps) c.refuse-rest-then-is_some.ensures
     ∙ counted-refused c.loop-stop.rest ps (k first)
-    ∙ applied-kept (t first) (k first) c.change-change.result _ (carries known.After-change-change) c.if-change-eq-ACCEPTED.false)
+    ∙ applied-kept (t first) (k first) c.change-change.result _ (carries known.After-change-change)
+    (sym c.is_some.ensures ∙ c.if-is_some.true))
 
 -- where it stops, the answer is the run's
 pub returns : goal.returns
@@ -189,6 +193,6 @@ returns c =
     let left = drop t.offset log in
     let short : length left ≤ longest_log = simp length-drop (omega (arith, c.requires.0)) in
     c.report.ensures
-    ∙ front-stops t c.args.budget left _ short c.loop-stop.invariant.3 (sym c.front.ensures ∙ c.in-Stop.is)
+    ∙ front-stops t c.args.budget left _ short c.loop-stop.invariant.3 (sym c.front.ensures ∙ ap told_front c.in-Stop.is)
     ∙ sym c.loop-stop.invariant.4
     ∙ ap (λ x. go c.args.budget x log) c.fresh-rest.ensures

@@ -1,5 +1,5 @@
 -- The places passed are closed where they were due, and their numbers stand beside them.
-use Rattle.std.proofs.Common.{◌-◌, ◌≡◌, ◌≤◌, ◌++◌, map, take, drop}
+use Rattle.std.proofs.Common.{◌≡◌, ◌≤◌, ◌++◌, map, take, drop}
 use lib.Seq.{paste}
 use Rattle.unit.specs.Steps.{closed}
 use Rattle.unit.specs.Changes.{closing_number}
@@ -10,6 +10,3 @@ invariant-loop-i l =
     (l.i ≤ 4)
     × (l.places ≡ closed l.which (take l.i l.fn.before) ++ drop l.i l.fn.before)
     × (l.numbers ≡ paste l.initial.numbers 0 (map (closing_number l.which) l.fn.before) l.i)
-
-abbrev pub decreases-loop-i : goal.decreases-loop-i
-decreases-loop-i l = 4 - l.i

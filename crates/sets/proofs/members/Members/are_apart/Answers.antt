@@ -1,29 +1,34 @@
 -- The partners passed stand no second time.
-use Rattle.std.proofs.Common.{arith, ap, sym, ◌∙◌, get_or}
-use Rattle.sets.specs.Members.{no_member, apart}
+use Rattle.std.proofs.Common.{ap, sym, ◌∙◌, ◌+◌, ◌∷◌, drop, get_or, add-one}
+use Rattle.std.proofs.Math.ListN.{drop_of_length-le}
+use Rattle.std.proofs.Math.Seq.{drop-cons}
+use Rattle.sets.specs.Members.{no_member, has_member, apart}
 use Rattle.sets.proofs.MemberLaws.{apart-here, apart-not}
-use Rattle.sets.proofs.MemberLoops.{held-rest, held_none, held-there, held-absent}
-use Rattle.sets.proofs.FourItems.{four-items}
+use Rattle.sets.proofs.MemberLoops.{rest_lent}
 use Rattle.sets.proofs.members.Members.are_apart.Goals as goal
+
+pub returns-then-is_among : goal.returns-then-is_among
+returns-then-is_among c =
+    let held = c.held-members.result.now in
+    let i = c.loop-i.i in
+    let m = get_or held i no_member in
+    let rest = drop-cons held i no_member c.loop-i-test.true ∙ ap (λ k. m ∷ drop k held) (sym (add-one i)) in
+    let there = ap (has_member m.partner) (sym (rest_lent held (i + 1))) ∙ sym c.is_among.ensures ∙ c.if-is_among.true in
+    sym (ap apart (sym c.held-members.ensures) ∙ c.loop-i.invariant ∙ apart-not _ _ m rest there)
 
 pub loop-i-preserved : goal.loop-i-preserved
 loop-i-preserved c =
-    let self = c.args.self in
-    let four = four-items self c.well_formed.0 in
-    let rest = held-rest self four c.requires c.loop-i.i c.if-i-count.false in
-    let absent = held-absent self four c.requires _ _ _ c.position.ensures c.if-position-count.false in
-    (omega arith, c.loop-i.invariant.1 ∙ apart-here _ _ (get_or self.items c.loop-i.i no_member) rest absent)
+    let held = c.held-members.result.now in
+    let i = c.loop-i.i in
+    let m = get_or held i no_member in
+    let rest = drop-cons held i no_member c.loop-i-test.true ∙ ap (λ k. m ∷ drop k held) (sym (add-one i)) in
+    let absent = ap (has_member m.partner) (sym (rest_lent held (i + 1))) ∙ sym c.is_among.ensures ∙ c.if-is_among.false in
+    c.loop-i.invariant ∙ apart-here _ _ m rest absent
 
-pub returns-then-i-count : goal.returns-then-i-count
+pub returns : goal.returns
 unfolding apart
-returns-then-i-count c =
-    let four = four-items c.args.self c.well_formed.0 in
-    sym (c.loop-i.invariant.1 ∙ ap apart (held_none c.args.self four c.requires c.loop-i.i c.if-i-count.true))
-
-pub returns-then-position-count : goal.returns-then-position-count
-returns-then-position-count c =
-    let self = c.args.self in
-    let four = four-items self c.well_formed.0 in
-    let rest = held-rest self four c.requires c.loop-i.i c.if-i-count.false in
-    let there = held-there self four c.requires _ _ _ c.position.ensures c.if-position-count.true in
-    sym (c.loop-i.invariant.1 ∙ apart-not _ _ (get_or self.items c.loop-i.i no_member) rest there)
+returns c =
+    let held = c.held-members.result.now in
+    sym (ap apart (sym c.held-members.ensures)
+    ∙ c.loop-i.invariant
+    ∙ ap apart (drop_of_length-le held c.loop-i-test.false))

@@ -1,50 +1,49 @@
 -- The members passed stand after those of the set.
-use Rattle.std.proofs.Common.{arith, ap, sym, ◌∙◌, ◌≡◌, ◌<◌, ◌≤◌, ◌+◌, ◌++◌, ℕ, true, length, take}
-use Rattle.std.proofs.Common.{length-append}
-use Rattle.std.proofs.Math.Seq.{length-take-le}
-use mathlib.Core.List.{append-nil}
-use Rattle.sets.specs.Members.{most_members, members_of, set_of, tidy}
+use Rattle.std.proofs.Common.{arith, ap, sym, true, ◌≡◌, ◌∙◌, ◌+◌, ◌<◌, ◌≤◌, ◌++◌, ℕ, List}
+use Rattle.std.proofs.Common.{length, take, length-append, append-nil}
+use Rattle.std.proofs.lemmas.List.{take_more, length-take-le}
+use Rattle.sets.specs.Members.{most_members, no_member, members_of, set_of, tidy}
 use Rattle.sets.specs.declared.members.Members.{Members}
-use Rattle.sets.proofs.Packing.{set-members, tidy-items, tidy-count, tidy-length}
-use Rattle.sets.proofs.MemberLoops.{held_next, held_all, grown-room, grown, joined-next}
+use Rattle.sets.specs.declared.members.Member.{Member}
+use Rattle.sets.proofs.Packing.{set-members, tidy-length}
+use Rattle.sets.proofs.MemberLoops.{grown-room, grown, joined-next}
 use Rattle.sets.proofs.members.Members.joined.Goals as goal
 
+pub loop-member-init : goal.loop-member-init
+loop-member-init c = sym (ap set_of (append-nil (members_of c.args.self)) ∙ set-members c.args.self c.requires.0)
+
 -- there is room for the next one
-room : (self other : Members) (i : ℕ)
+room : (self other : Members) (items : List Member) (i : ℕ)
     → tidy self ≡ true
     → tidy other ≡ true
     → self.count + other.count ≤ most_members
-    → i < other.count
-    → length (members_of self ++ take i (members_of other)) < most_members
-room self other i ok right few below =
-    let some = length-take-le i (members_of other) (omega (arith, tidy-length other right)) in
-    omega (arith, length-append (members_of self) (take i (members_of other)), tidy-length self ok)
-
-pub loop-i-init : goal.loop-i-init
-loop-i-init c = (omega arith, sym (ap set_of (append-nil (members_of c.args.self)) ∙ set-members c.args.self c.requires.0))
+    → items ≡ members_of other
+    → i < length items
+    → length (members_of self ++ take i items) < most_members
+room self other items i ok right few is below =
+    omega (
+      arith,
+      length-append (members_of self) (take i items),
+      length-take-le i items (omega arith),
+      tidy-length self ok,
+      tidy-length other right,
+      ap length is,
+    )
 
 pub with-all-requires : goal.with-all-requires
 with-all-requires c =
-    grown-room c.loop-i.all (members_of c.args.self ++ take c.loop-i.i (members_of c.args.other)) c.loop-i.invariant.1
-    (room c.args.self c.args.other c.loop-i.i c.requires.0 c.requires.1 c.requires.2 c.loop-i-test.true)
+    let items = c.held-member-items.result.now in
+    let few =
+    room c.args.self c.args.other items c.loop-member.member-index c.requires.0 c.requires.1 c.requires.2 c.held-member-items.ensures
+    c.loop-member-test.true in
+    grown-room c.loop-member.all (members_of c.args.self ++ take c.loop-member.member-index items) c.loop-member.invariant few
 
-pub loop-i-preserved : goal.loop-i-preserved
-loop-i-preserved c =
-    let other = c.args.other in
-    let ok = c.requires.1 in
-    let below = c.loop-i-test.true in
-    let taken = take c.loop-i.i (members_of other) in
-    let more = held_next other (tidy-items other ok) (tidy-count other ok) c.loop-i.i below in
-    let wide = room c.args.self other c.loop-i.i c.requires.0 ok c.requires.2 below in (
-      omega arith,
-      grown c.loop-i.all (members_of c.args.self ++ taken) c.loop-i.invariant.1 wide _ _ c.with-all.ensures
-          ∙ ap set_of (joined-next taken _ _ more (members_of c.args.self)),
-    )
-
-pub returns : goal.returns
-returns c =
-    let other = c.args.other in
-    let ok = c.requires.1 in
-    c.loop-i.invariant.1
-    ∙ ap (λ l. set_of (members_of c.args.self ++ l))
-    (held_all other (tidy-items other ok) (tidy-count other ok) c.loop-i.i c.loop-i-test.false)
+pub loop-member-preserved : goal.loop-member-preserved
+loop-member-preserved c =
+    let items = c.held-member-items.result.now in
+    let i = c.loop-member.member-index in
+    let few =
+    room c.args.self c.args.other items i c.requires.0 c.requires.1 c.requires.2 c.held-member-items.ensures
+    c.loop-member-test.true in
+    grown c.loop-member.all (members_of c.args.self ++ take i items) c.loop-member.invariant few _ _ c.with-all.ensures
+    ∙ ap set_of (joined-next (take i items) _ _ (take_more items i no_member c.loop-member-test.true) (members_of c.args.self))

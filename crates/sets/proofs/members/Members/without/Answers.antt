@@ -1,29 +1,43 @@
 -- By the number found.
-use Rattle.std.proofs.Common.{arith}
+use Rattle.std.proofs.Common.{arith, ap, ◌∙◌, ◌+◌}
+use Rattle.std.specs.List.{copy_within}
 use Rattle.sets.proofs.Packing.{tidy-count}
-use Rattle.sets.proofs.MemberLoops.{without_at, without-none}
+use Rattle.sets.proofs.MemberLoops.{found-below, without_at, without-none}
+use Rattle.sets.proofs.FourItems.{four-items}
 use Rattle.sets.proofs.members.Members.without.Goals as goal
 
-pub position-at-requires : goal.position-at-requires
-position-at-requires c = (tidy-count c.args.self c.requires, omega arith)
-
-pub returns-then-at-self : goal.returns-then-at-self
-returns-then-at-self c =
-    without-none c.args.self c.args.partner c.requires (omega (arith, c.position-at.ensures, c.if-at-self.true))
-
-pub returns-in-0 : goal.returns-in-0
-returns-in-0 c =
-    without_at c.args.self _ 0 _ c.requires c.none-none.ensures (omega (arith, c.position-at.ensures, c.in-0.is)) (omega (arith, c.in-0.is))
-
-pub returns-in-1 : goal.returns-in-1
-returns-in-1 c =
-    without_at c.args.self _ 1 _ c.requires c.none-none.ensures (omega (arith, c.position-at.ensures, c.in-1.is)) (omega (arith, c.in-1.is))
-
-pub returns-in-2 : goal.returns-in-2
-returns-in-2 c =
-    without_at c.args.self _ 2 _ c.requires c.none-none.ensures (omega (arith, c.position-at.ensures, c.in-2.is)) (omega (arith, c.in-2.is))
-
 pub returns-in_default : goal.returns-in_default
-returns-in_default c =
-    let most = tidy-count c.args.self c.requires in
-    without_at c.args.self _ 3 _ c.requires c.none-none.ensures (omega (arith, c.position-at.ensures, most)) (omega (arith, most))
+returns-in_default c = without-none c.args.self c.args.partner c.requires c.in_default.ensures
+
+pub overflow_add-at : goal.overflow_add-at
+overflow_add-at c =
+    omega (arith, found-below c.args.self c.args.partner c.requires _ c.in-Some.ensures, tidy-count c.args.self c.requires)
+
+pub copy_within-requires-clause-start_le_end : goal.copy_within-requires-clause-start_le_end
+copy_within-requires-clause-start_le_end c =
+    omega (
+      arith,
+      found-below c.args.self c.args.partner c.requires _ c.in-Some.ensures,
+      tidy-count c.args.self c.requires,
+      four-items c.args.self c.well_formed.0,
+    )
+
+pub copy_within-requires-clause-dest_in_bounds : goal.copy_within-requires-clause-dest_in_bounds
+copy_within-requires-clause-dest_in_bounds c =
+    omega (
+      arith,
+      found-below c.args.self c.args.partner c.requires _ c.in-Some.ensures,
+      tidy-count c.args.self c.requires,
+      four-items c.args.self c.well_formed.0,
+    )
+
+pub overflow_sub-result : goal.overflow_sub-result
+overflow_sub-result c = omega (arith, found-below c.args.self c.args.partner c.requires _ c.in-Some.ensures)
+
+pub returns : goal.returns
+returns c =
+    let self = c.args.self in
+    let at = c.in-Some.at in
+    let moved =
+    c.copy_within.ensures.after ∙ ap (λ n. copy_within self.items (at + 1) n at) (four-items self c.well_formed.0) in
+    without_at self c.args.partner c.requires at c.in-Some.ensures _ _ moved c.none.ensures

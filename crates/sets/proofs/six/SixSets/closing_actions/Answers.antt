@@ -1,99 +1,40 @@
--- One set after the other is sent its actions.
-use Rattle.std.proofs.Common.{ap, ◌∙◌, []}
-use Rattle.place.specs.Table.{release, terminate}
+-- The actions of the sets passed.
+use Rattle.std.proofs.Common.{ℕ, ap, ◌∙◌, flat_map}
+use lib.Seq.{take_all}
 use Rattle.unit.specs.Forms.{listed}
-use Rattle.sets.specs.SixSets.{unpacked_six}
-use Rattle.sets.proofs.SixLaws.{count-each}
-use Rattle.sets.proofs.SentLaws.{sends, to_calling, to_contacted, to_incoming, to_outgoing, closing-sent, room-each}
+use Rattle.sets.specs.SixSets.{set_in, unpacked_six}
+use Rattle.sets.specs.SetSteps.{goers}
+use Rattle.sets.specs.declared.names.SetName.{SetName}
+use Rattle.sets.proofs.SentLaws.{Sends}
+use Rattle.sets.proofs.SixByName.{closing_order, turn, sent_at, sent_to, goers-held, sends-next, sent-next, sent-last}
+use Rattle.sets.proofs.six.SixSets.closing_actions.Goals.{After-goers}
 use Rattle.sets.proofs.six.SixSets.closing_actions.Goals as goal
 
-pub goers-requires : goal.goers-requires
-goers-requires c = (count-each c.args.self c.requires.0).calling
+-- a set whose actions are still to be sent
+module _ (c : After-goers) where
+  abbrev one : SetName × ℕ
+  one = turn c.args.which (unpacked_six c.args.self) c.loop-name.name-index c.loop-name-test.true
 
-pub send_all-called-requires : goal.send_all-called-requires
-send_all-called-requires c =
-    let which = c.args.which in
-    let six = unpacked_six c.args.self in
-    let room = room-each which six c.requires.1 in
-    let calling_sent = sends _ _ [] _ c.no_actions.ensures c.goers.ensures room.calling in
-    calling_sent.0
+  sending : Sends c.loop-name.sent c.goers.result (sent_to c.args.which (unpacked_six c.args.self) c.loop-name.name-index)
+      (goers c.args.which one.0 (set_in one.0 (unpacked_six c.args.self)))
+  sending =
+      let gone = goers-held c.args.which _ c.args.self c.set.result c.goers.result c.set.ensures c.goers.ensures in
+      sends-next c.args.which (unpacked_six c.args.self) c.loop-name.name-index c.loop-name-test.true c.loop-name.sent
+      c.goers.result c.requires.1 c.loop-name.invariant gone
 
-pub goers-requires-2 : goal.goers-requires-2
-goers-requires-2 c = (count-each c.args.self c.requires.0).contacted
+pub send_all-sent-requires : goal.send_all-sent-requires
+send_all-sent-requires c = (sending c).0
 
-pub send_all-contacted-requires : goal.send_all-contacted-requires
-send_all-contacted-requires c =
-    let which = c.args.which in
-    let six = unpacked_six c.args.self in
-    let room = room-each which six c.requires.1 in
-    let calling_sent = sends _ _ [] _ c.no_actions.ensures c.goers.ensures room.calling in
-    let after_calling = calling_sent.1 release _ c.send_all-called.ensures in
-    let contacted_sent = sends _ _ (to_calling which six) _ after_calling c.goers-2.ensures room.contacted in
-    contacted_sent.0
-
-pub goers-requires-3 : goal.goers-requires-3
-goers-requires-3 c = (count-each c.args.self c.requires.0).incoming
-
-pub send_all-incoming-requires : goal.send_all-incoming-requires
-send_all-incoming-requires c =
-    let which = c.args.which in
-    let six = unpacked_six c.args.self in
-    let room = room-each which six c.requires.1 in
-    let calling_sent = sends _ _ [] _ c.no_actions.ensures c.goers.ensures room.calling in
-    let after_calling = calling_sent.1 release _ c.send_all-called.ensures in
-    let contacted_sent = sends _ _ (to_calling which six) _ after_calling c.goers-2.ensures room.contacted in
-    let after_contacted = contacted_sent.1 release _ c.send_all-contacted.ensures in
-    let incoming_sent = sends _ _ (to_contacted which six) _ after_contacted c.goers-3.ensures room.incoming in
-    incoming_sent.0
-
-pub goers-requires-4 : goal.goers-requires-4
-goers-requires-4 c = (count-each c.args.self c.requires.0).outgoing
-
-pub send_all-outgoing-requires : goal.send_all-outgoing-requires
-send_all-outgoing-requires c =
-    let which = c.args.which in
-    let six = unpacked_six c.args.self in
-    let room = room-each which six c.requires.1 in
-    let calling_sent = sends _ _ [] _ c.no_actions.ensures c.goers.ensures room.calling in
-    let after_calling = calling_sent.1 release _ c.send_all-called.ensures in
-    let contacted_sent = sends _ _ (to_calling which six) _ after_calling c.goers-2.ensures room.contacted in
-    let after_contacted = contacted_sent.1 release _ c.send_all-contacted.ensures in
-    let incoming_sent = sends _ _ (to_contacted which six) _ after_contacted c.goers-3.ensures room.incoming in
-    let after_incoming = incoming_sent.1 terminate _ c.send_all-incoming.ensures in
-    let outgoing_sent = sends _ _ (to_incoming which six) _ after_incoming c.goers-4.ensures room.outgoing in
-    outgoing_sent.0
-
-pub goers-requires-5 : goal.goers-requires-5
-goers-requires-5 c = (count-each c.args.self c.requires.0).lost
-
-pub send_all-requires : goal.send_all-requires
-send_all-requires c =
-    let which = c.args.which in
-    let six = unpacked_six c.args.self in
-    let room = room-each which six c.requires.1 in
-    let calling_sent = sends _ _ [] _ c.no_actions.ensures c.goers.ensures room.calling in
-    let after_calling = calling_sent.1 release _ c.send_all-called.ensures in
-    let contacted_sent = sends _ _ (to_calling which six) _ after_calling c.goers-2.ensures room.contacted in
-    let after_contacted = contacted_sent.1 release _ c.send_all-contacted.ensures in
-    let incoming_sent = sends _ _ (to_contacted which six) _ after_contacted c.goers-3.ensures room.incoming in
-    let after_incoming = incoming_sent.1 terminate _ c.send_all-incoming.ensures in
-    let outgoing_sent = sends _ _ (to_incoming which six) _ after_incoming c.goers-4.ensures room.outgoing in
-    let after_outgoing = outgoing_sent.1 terminate _ c.send_all-outgoing.ensures in
-    let lost_sent = sends _ _ (to_outgoing which six) _ after_outgoing c.goers-5.ensures room.lost in
-    lost_sent.0
+pub loop-name-preserved : goal.loop-name-preserved
+loop-name-preserved c =
+    (sending (goal.at.loop-name-preserved c).After-goers).1 _ c.send_all-sent.result c.send_all-sent.ensures
+    ∙ ap listed (sent-next c.args.which (unpacked_six c.args.self) c.loop-name.name-index c.loop-name-test.true)
 
 pub returns : goal.returns
 returns c =
     let which = c.args.which in
     let six = unpacked_six c.args.self in
-    let room = room-each which six c.requires.1 in
-    let calling_sent = sends _ _ [] _ c.no_actions.ensures c.goers.ensures room.calling in
-    let after_calling = calling_sent.1 release _ c.send_all-called.ensures in
-    let contacted_sent = sends _ _ (to_calling which six) _ after_calling c.goers-2.ensures room.contacted in
-    let after_contacted = contacted_sent.1 release _ c.send_all-contacted.ensures in
-    let incoming_sent = sends _ _ (to_contacted which six) _ after_contacted c.goers-3.ensures room.incoming in
-    let after_incoming = incoming_sent.1 terminate _ c.send_all-incoming.ensures in
-    let outgoing_sent = sends _ _ (to_incoming which six) _ after_incoming c.goers-4.ensures room.outgoing in
-    let after_outgoing = outgoing_sent.1 terminate _ c.send_all-outgoing.ensures in
-    let lost_sent = sends _ _ (to_outgoing which six) _ after_outgoing c.goers-5.ensures room.lost in
-    lost_sent.1 release _ c.send_all.ensures ∙ ap listed (closing-sent which six)
+    c.loop-name.invariant
+    ∙ ap listed
+    (ap (flat_map (sent_at which six)) (take_all c.loop-name.name-index closing_order c.loop-name-test.false)
+    ∙ sent-last which six)

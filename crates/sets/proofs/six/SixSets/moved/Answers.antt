@@ -1,5 +1,6 @@
 -- The member is taken out of its set, and put into the one that it enters.
 use Rattle.std.proofs.Common.{◌≡◌, ℕ, true, ◌<◌, sym, ap, ◌∙◌, arith}
+use mathlib.Core.Logic.{inl, inr}
 use Rattle.sets.specs.Members.{most_members, member_for, tidy}
 use Rattle.sets.specs.SixSets.{Six, set_in, size, unpacked_six, packed_six, tidy_six}
 use Rattle.sets.specs.Moves.{on_move}
@@ -9,16 +10,11 @@ use Rattle.sets.specs.declared.moves.Move.{Move}
 use Rattle.sets.specs.declared.names.SetName.{SetName}
 use Rattle.sets.specs.declared.six.SixSets.{SixSets}
 use Rattle.sets.proofs.Packing.{packed-six}
-use Rattle.sets.proofs.StepLaws.{held-tidy, member-held, held-count, packed-room, packed-enter, rest_of, rest-is, rest-room}
+use Rattle.sets.proofs.StepLaws.{member-held, packed-room, packed-enter, rest_of, rest-is, rest-room}
 use Rattle.sets.proofs.StepLaws.{moved-is}
+use Rattle.sets.proofs.SixByName.{held-tidy}
 use Rattle.sets.proofs.six.SixSets.moved.Goals as goal
 use Rattle.sets.proofs.six.SixSets.moved.Goals.{After-with_set-rest}
-
-pub member-member-requires : goal.member-member-requires
-member-member-requires c =
-    let many = ap (λ s. s.count) c.set-from.ensures in
-    let fits = held-count c.args.name c.args.self c.requires.0 in
-    omega (arith, c.requires.1)
 
 pub without-requires : goal.without-requires
 without-requires c = ap tidy c.set-from.ensures ∙ held-tidy c.args.name c.args.self c.requires.0
@@ -71,12 +67,6 @@ module _ (c : After-with_set-rest) where
 pub enter-requires : goal.enter-requires
 enter-requires c = ready (goal.at.enter-requires c).After-with_set-rest
 
-pub enter-requires-in-Sends : goal.enter-requires-in-Sends
-enter-requires-in-Sends c = ready (goal.at.enter-requires-in-Sends c).After-with_set-rest
-
-pub enter-requires-in-SendsBoth : goal.enter-requires-in-SendsBoth
-enter-requires-in-SendsBoth c = ready (goal.at.enter-requires-in-SendsBoth c).After-with_set-rest
-
 pub returns-in-Stays : goal.returns-in-Stays
 returns-in-Stays c =
     by (goal.at.returns-in-Stays c).After-with_set-rest _ _ c.in-Stays.is (sym (packed-six c.args.self c.requires.0))
@@ -89,15 +79,9 @@ returns-in-Leaves c =
 pub returns-in-Enters : goal.returns-in-Enters
 returns-in-Enters c =
     let out = (goal.at.returns-in-Enters c).After-with_set-rest in
-    by out _ _ c.in-Enters.is (c.enter.ensures ∙ enters out c.in-Enters.set _ _ c.tried.ensures)
-
-pub returns-in-Sends : goal.returns-in-Sends
-returns-in-Sends c =
-    let out = (goal.at.returns-in-Sends c).After-with_set-rest in
-    by out _ _ c.in-Sends.is (c.enter-in-Sends.ensures ∙ enters out c.in-Sends.set _ _ c.tried-in-Sends.ensures)
-
-pub returns-in-SendsBoth : goal.returns-in-SendsBoth
-returns-in-SendsBoth c =
-    let out = (goal.at.returns-in-SendsBoth c).After-with_set-rest in
-    by out _ _ c.in-SendsBoth.is
-    (c.enter-in-SendsBoth.ensures ∙ enters out c.in-SendsBoth.set _ _ c.tried-in-SendsBoth.ensures)
+    let entered = c.enter.ensures ∙ enters out c.in-Enters.set _ _ c.tried.ensures in
+    elim c.in-Enters.is [
+      | inl is ↦ by out _ _ is entered
+      | inr (inl (number, is)) ↦ by out _ _ is entered
+      | inr (inr (first, second, is)) ↦ by out _ _ is entered
+    ]

@@ -1,5 +1,6 @@
 -- The buffer's length, then the step, then what it sends.
-use Rattle.std.proofs.Common.{arith}
+use Rattle.std.proofs.Common.{ℕ, ap, ◌∙◌, arith}
+use Rattle.sets.specs.declared.answer.SetStepped.{SetStepped}
 use Rattle.sets.proofs.SetSent.{sent-few, sent-answer, sent-written, short-answer, short-written}
 use Rattle.sets.proofs.state.SetState.on_record.Goals as goal
 
@@ -7,7 +8,8 @@ pub returns-then-actions-lt-ACTION_ROOM : goal.returns-then-actions-lt-ACTION_RO
 returns-then-actions-lt-ACTION_ROOM c =
     let a = c.args in
     let short = c.if-actions-lt-ACTION_ROOM.true in
-    (short-answer a.self a.bytes.now a.actions.now short, short-written a.self a.bytes.now a.actions.now short)
+    let at : ℕ → SetStepped = λ code. record { code = code; state = a.self; count = 0; phase = 0 } in
+    (ap at c.number.ensures ∙ short-answer a.self a.bytes.now a.actions.now short, short-written a.self a.bytes.now a.actions.now short)
 
 pub write-requires : goal.write-requires
 write-requires c =

@@ -6,27 +6,28 @@ use Rattle.unit.specs.Forms.{packed}
 use Rattle.shunter.specs.Queues.{modem_count}
 use Rattle.shunter.specs.Shunting.{modem_missing, shunt_refused_at, all_held, shunted}
 use Rattle.shunter.proofs.Answers.{called-missing, called_on}
-use Rattle.shunter.proofs.state.Shunter.called.Goals.{After-and}
+use Rattle.shunter.proofs.state.Shunter.called.Goals.{After-modems}
 use Rattle.shunter.proofs.state.Shunter.called.Goals as goal
 
 -- what the test showed
-shown : (c : After-and) (b : Bool) → c.and.result ≡ b → (eqb c.args.answer.code accepted && all_held c.args.self) ≡ b
-shown c b test =
-    sym (ap (λ k. eqb c.args.answer.code accepted && leb modem_count k) c.modems.ensures) ∙ sym c.and.ensures ∙ test
+shown : (c : After-modems) (b : Bool)
+    → (eqb c.args.answer.code accepted && leb modem_count c.modems.result) ≡ b
+    → (eqb c.args.answer.code accepted && all_held c.args.self) ≡ b
+shown c b test = sym (ap (λ k. eqb c.args.answer.code accepted && leb modem_count k) c.modems.ensures) ∙ test
 
-pub returns-then-and : goal.returns-then-and
+pub returns-then-answer-modems : goal.returns-then-answer-modems
 unfolding packed
-returns-then-and c p o is good =
+returns-then-answer-modems c p o is good =
     let self = c.args.self in
     let answer = c.args.answer in
-    let both = shown (goal.at.returns-then-and c).After-and true c.if-and.true in
+    let both = shown (goal.at.returns-then-answer-modems c).After-modems true c.if-answer-modems.true in
     let accepts = eqb-true answer.code accepted (and_left (eqb answer.code accepted) (all_held self) both) in
     let held = and_right (eqb answer.code accepted) (all_held self) both in
     c.refused.ensures
     ∙ ap (λ w. shunted (shunt_refused_at modem_missing w self)) c.nowhere.ensures
     ∙ ap shunted (sym (called-missing self p o (sym (ap (λ a. a.code) is) ∙ accepts) held))
 
-pub returns-else-and : goal.returns-else-and
-returns-else-and c p o is good =
+pub returns-else-answer-modems : goal.returns-else-answer-modems
+returns-else-answer-modems c p o is good =
     called_on c.args.self p o c.args.answer c.answered.result is
-    (shown (goal.at.returns-else-and c).After-and false c.if-and.false) c.answered.ensures good
+    (shown (goal.at.returns-else-answer-modems c).After-modems false c.if-answer-modems.false) c.answered.ensures good

@@ -9,7 +9,6 @@ returns c =
     let ps = c.args.self.state.places in
     let four : length ps ≡ 4 = search rules in
     let partner = c.args.partner in
-    c.or.ensures
-    ∙ ap₂ ◌||◌ (c.holds.ensures ∙ ap (holds partner) c.place_at-first.ensures)
-    (c.holds-2.ensures ∙ ap (holds partner) c.place_at-second.ensures)
+    ap₂ ◌||◌ (c.holds.ensures ∙ ap (holds partner) c.place_at.ensures)
+    (c.holds-2.ensures ∙ ap (holds partner) c.place_at-2.ensures)
     ∙ sym (waits-is ps partner four c.args.self.queue)

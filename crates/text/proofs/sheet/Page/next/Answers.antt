@@ -1,6 +1,6 @@
 -- The line of the answer, put after the others.
 use Rattle.std.proofs.Common.{◌+◌, ◌≤◌, length, sym, subst}
-use Rattle.text.proofs.Putting.{Put}
+use Rattle.text.specs.Making.{Put}
 use Rattle.text.proofs.Pages.{next-line, next-page}
 use Rattle.text.proofs.sheet.Page.next.Goals as goal
 

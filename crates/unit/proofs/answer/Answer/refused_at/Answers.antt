@@ -4,4 +4,4 @@ use Rattle.unit.proofs.answer.Answer.refused_at.Goals as goal
 
 pub returns : goal.returns
 unfolding packed
-returns c = λ i. record { code = c.args.code; state = c.args.state; actions = c.none.ensures i; standing = c.args.standing }
+returns c = λ i. record { code = c.number.ensures i; state = c.args.state; actions = c.none.ensures i; standing = c.args.standing }

@@ -7,7 +7,7 @@ unfolding noted
 returns c =
     λ i.
     record {
-      code = c.args.code;
+      refusal = c.args.refusal;
       train = c.args.train;
       marks = c.args.marks;
       which = c.args.which;

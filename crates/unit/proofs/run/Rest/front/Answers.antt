@@ -1,15 +1,15 @@
 -- The end of the log, then of the budget, then what stands there.
-use Rattle.std.proofs.Common.{sym, ◌∙◌}
+use Rattle.std.proofs.Common.{◌∙◌}
 use Rattle.unit.proofs.Runs.Fronts.{front-used, front-left}
 use Rattle.unit.proofs.run.Rest.front.Goals as goal
 
-pub returns-then-wide-budget : goal.returns-then-wide-budget
-returns-then-wide-budget c =
+pub returns-then-self-budget : goal.returns-then-self-budget
+returns-then-self-budget c =
     front-used c.args.self.read c.args.budget c.args.log.now c.args.self.offset c.if-at-log.false
-    (sym c.wide.ensures ∙ c.if-wide-budget.true)
+    c.if-self-budget.true
 
 pub returns : goal.returns
 returns c =
     c.front_at.ensures
     ∙ front-left c.args.self.read c.args.budget c.args.log.now c.args.self.offset c.if-at-log.false
-    (λ used. c.if-wide-budget.false (c.wide.ensures ∙ used))
+    c.if-self-budget.false

@@ -1,5 +1,5 @@
 -- The numbers passed are counted.
-use Rattle.std.proofs.Common.{◌-◌, ◌≡◌, ◌+◌, ◌≤◌, List, length, take}
+use Rattle.std.proofs.Common.{◌≡◌, ◌+◌, ◌≤◌, List, length, take}
 use Rattle.place.specs.declared.place.Place.{Place}
 use Rattle.unit.specs.States.{place_count}
 use Rattle.unit.specs.Changes.{sent_for}
@@ -14,6 +14,3 @@ invariant-loop-i l =
     → length ps ≡ place_count
     → l.totals ≡ totalled l.fn.self (sent_for (take l.i ps) (take l.i l.numbers)))
     × (Below most_total l.fn.self → Below (most_total + l.i) l.totals)
-
-abbrev pub decreases-loop-i : goal.decreases-loop-i
-decreases-loop-i l = 4 - l.i

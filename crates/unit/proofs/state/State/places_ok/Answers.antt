@@ -8,25 +8,25 @@ pub loop-i-preserved : goal.loop-i-preserved
 loop-i-preserved c =
     let four = four-places c.args.self c.well_formed.0 in
     let under : c.loop-i.i < length c.args.self.places = omega (arith, four) in
-    let good = sym c.is_sound.ensures ∙ c.if-is_sound.true in
-    let alone = sym c.absent_above.ensures ∙ c.if-absent_above.true in
+    let good = sym c.is_sound.ensures ∙ c.if-not-is_sound.false in
+    let alone = sym c.absent_above.ensures ∙ c.if-not-absent_above.false in
     (omega arith, ok-more c.args.self.limits c.args.self.places _ c.loop-i.invariant.1 under good alone)
 
-pub returns-then-i-ge-PLACES : goal.returns-then-i-ge-PLACES
-returns-then-i-ge-PLACES c =
+pub returns : goal.returns
+returns c =
     ok_end c.args.self.limits c.args.self.places c.loop-i.i c.loop-i.invariant.1
     (omega (arith, four-places c.args.self c.well_formed.0))
 
-pub returns-else-absent_above : goal.returns-else-absent_above
-returns-else-absent_above c =
+pub returns-then-not-absent_above : goal.returns-then-not-absent_above
+returns-then-not-absent_above c =
     let four = four-places c.args.self c.well_formed.0 in
     let under : c.loop-i.i < length c.args.self.places = omega (arith, four) in
-    let good = sym c.is_sound.ensures ∙ c.if-is_sound.true in
-    let twice = sym c.absent_above.ensures ∙ c.if-absent_above.false in
+    let good = sym c.is_sound.ensures ∙ c.if-not-is_sound.false in
+    let twice = sym c.absent_above.ensures ∙ c.if-not-absent_above.true in
     ok-twice c.args.self.limits c.args.self.places _ c.loop-i.invariant.1 under good twice
 
-pub returns-else-is_sound : goal.returns-else-is_sound
-returns-else-is_sound c =
+pub returns-then-not-is_sound : goal.returns-then-not-is_sound
+returns-then-not-is_sound c =
     let four = four-places c.args.self c.well_formed.0 in
     let under : c.loop-i.i < length c.args.self.places = omega (arith, four) in
-    ok-bad c.args.self.limits c.args.self.places _ c.loop-i.invariant.1 under (sym c.is_sound.ensures ∙ c.if-is_sound.false)
+    ok-bad c.args.self.limits c.args.self.places _ c.loop-i.invariant.1 under (sym c.is_sound.ensures ∙ c.if-not-is_sound.true)

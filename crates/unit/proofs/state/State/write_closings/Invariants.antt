@@ -1,5 +1,5 @@
 -- The places passed are closed where they were due, and their actions stand in the buffer.
-use Rattle.std.proofs.Common.{◌≡◌, ◌≤◌, ◌-◌, List, ◌++◌, map, length, take, drop, ℕ}
+use Rattle.std.proofs.Common.{◌≡◌, ◌≤◌, List, ◌++◌, map, length, take, drop, ℕ}
 use Rattle.place.specs.declared.place.Place.{Place}
 use Rattle.place.specs.declared.turn.Closing.{Closing}
 use Rattle.unit.specs.Steps.{closed}
@@ -18,6 +18,3 @@ invariant-loop-i l =
     × (l.places ≡ closed l.which (take l.i ps) ++ drop l.i ps)
     × (l.count ≡ length (sent_for (take l.i ps) (take l.i (all l.which ps))))
     × (l.s ≡ written (sent_for (take l.i ps) (take l.i (all l.which ps))) l.fn.s)
-
-abbrev pub decreases-loop-i : goal.decreases-loop-i
-decreases-loop-i l = 4 - l.i

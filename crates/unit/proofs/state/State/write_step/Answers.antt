@@ -1,5 +1,5 @@
 -- What the event changes is carried out or refused.
-use Rattle.std.proofs.Common.{refl, sym, ap, ◌∙◌, arith}
+use Rattle.std.proofs.Common.{refl, sym, ap, ◌∙◌}
 use Rattle.unit.specs.Forms.{stepped}
 use Rattle.unit.specs.OnRecords.{written}
 use Rattle.unit.proofs.Settling.{carried-refused, carried-made, made-few, written-refused}
@@ -11,16 +11,16 @@ write_change-requires c =
     let self = c.args.self in
     let change = c.change-change.result in
     let four = four-places self c.well_formed.0 in
-    let is = sym (carried-made self change c.if-code-eq-ACCEPTED.true) ∙ c.change-change.ensures in
+    let is = sym (carried-made self change c.in-None.is) ∙ c.change-change.ensures in
     (made-few self change four c.args.event is, c.requires)
 
-pub returns-then-code-eq-ACCEPTED : goal.returns-then-code-eq-ACCEPTED
-returns-then-code-eq-ACCEPTED c =
-    let is = sym (carried-made c.args.self c.change-change.result c.if-code-eq-ACCEPTED.true) ∙ c.change-change.ensures in
+pub returns-in-None : goal.returns-in-None
+returns-in-None c =
+    let is = sym (carried-made c.args.self c.change-change.result c.in-None.is) ∙ c.change-change.ensures in
     let wrote = c.write_change.ensures in
     (wrote.0 ∙ ap stepped is, wrote.1 ∙ ap (λ o. written o.actions c.args.s.now) is)
 
-pub returns-else-code-eq-ACCEPTED : goal.returns-else-code-eq-ACCEPTED
-returns-else-code-eq-ACCEPTED c =
-    let numbered = carried-refused c.args.self c.change-change.result (omega (arith, c.if-code-eq-ACCEPTED.false)) in
+pub returns-in-Some : goal.returns-in-Some
+returns-in-Some c =
+    let numbered = carried-refused c.args.self c.change-change.result _ c.in-Some.is in
     written-refused _ _ _ _ _ c.args.self c.args.s.now c.refused.ensures refl (sym c.change-change.ensures ∙ numbered)

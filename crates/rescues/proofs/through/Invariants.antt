@@ -1,5 +1,0 @@
--- Each turn takes one of the turns left.
-use Rattle.rescues.proofs.through.Given as goal
-
-abbrev pub decreases-loop-left : goal.decreases-loop-left
-decreases-loop-left l = l.left

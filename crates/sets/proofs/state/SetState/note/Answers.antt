@@ -1,7 +1,0 @@
--- The train and the marks alone.
-use Rattle.std.proofs.Common.{[], ◌∙◌}
-use Rattle.sets.proofs.StepLaws.{noted-held}
-use Rattle.sets.proofs.state.SetState.note.Goals as goal
-
-pub returns : goal.returns
-returns c = c.done.ensures [] c.no_actions.ensures ∙ noted-held c.args.self c.args.train c.args.marks c.requires

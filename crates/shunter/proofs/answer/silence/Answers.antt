@@ -1,8 +1,0 @@
--- Four zeros, none of them counted.
-use Rattle.std.proofs.Common.{refl}
-use Rattle.unit.specs.Forms.{listed}
-use Rattle.shunter.proofs.answer.silence.Goals as goal
-
-pub returns : goal.returns
-unfolding listed
-returns c = refl

@@ -1,9 +1,0 @@
--- The unit grows up to the number.
-use Rattle.std.proofs.Common.{◌≤◌, ◌-◌}
-use Rattle.tools.proofs.text.highest_unit.Given as goal
-
-abbrev pub invariant-loop-unit : goal.invariant-loop-unit
-invariant-loop-unit l = 1 ≤ l.unit
-
-abbrev pub decreases-loop-unit : goal.decreases-loop-unit
-decreases-loop-unit l = l.n - l.unit
