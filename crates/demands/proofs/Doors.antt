@@ -82,18 +82,18 @@ pub run-once : One in-unit.run.run.Reads.Post (λ (s, (log, (budget, _))). run s
 run-once κ entry exit r p = p
 
 -- demand D-1-1: `record:read`, of a record: 1, 2, 1, 3
-pub read-once : (κ : _) (entry : _) (exit : _) (r : _) (q : _)
+pub read-once : (κ : _) (entry : _) (exit : _) (other : _) (r : _) (q : _)
     → in-record.read.read.Reads.Post κ entry r exit
-    → in-record.read.read.Reads.Post κ entry q exit
+    → in-record.read.read.Reads.Post κ entry q other
     → (told_reading r ≡ reading entry.0.now) × (r ≡ q)
-read-once κ entry exit r q first second = (first, told-one r q (first ∙ sym second))
+read-once κ entry exit other r q first second = (first, told-one r q (first ∙ sym second))
 
 -- demand D-1-1: `record:take`, of a log: 12
-pub take-once : (κ : _) (entry : _) (exit : _) (r : _) (q : _)
+pub take-once : (κ : _) (entry : _) (exit : _) (other : _) (r : _) (q : _)
     → in-record.take.take.Reads.Post κ entry r exit
-    → in-record.take.take.Reads.Post κ entry q exit
+    → in-record.take.take.Reads.Post κ entry q other
     → (told_taken r ≡ taken entry.0.now) × (r ≡ q)
-take-once κ entry exit r q first second = (first, taken-one r q (first ∙ sym second))
+take-once κ entry exit other r q first second = (first, taken-one r q (first ∙ sym second))
 
 -- demand D-1-1: `image:write_a2`, of a state and a lent buffer: 10, 11
 pub write-a2-once : OneLent in_image.write.write_a2.Reads.Post (λ (_, (buffer, _)). buffer.now)

@@ -1,3 +1,4 @@
 pub mod Doors
 pub mod Demands
 pub mod FromNumbers
+pub mod OfMachines

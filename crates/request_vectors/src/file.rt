@@ -1,6 +1,6 @@
 // The vectors of a file, each tried and those that differ named.
 use std::io;
-use vectors::file::{Judge, judge_file};
+use vectors::file::{Judge, judge_each};
 
 // The most bytes of a vector.
 pub(crate) const LONGEST: usize = 16384;
@@ -55,5 +55,5 @@ pub(crate) fn try_file(
         tried: 0,
         differ: 0,
     };
-    judge_file(rt, name, room, trial)
+    judge_each(rt, name, room, trial)
 }

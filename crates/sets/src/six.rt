@@ -1,5 +1,5 @@
 // The six sets together.
-ghost use Rattle.std.specs.Prelude.{◌≡◌, true, ◌≤◌, find};
+ghost use Rattle.std.specs.Prelude.{◌≡◌, true, ◌≤◌, map, find};
 ghost use Rattle.std.specs.List.{list_all};
 ghost use Rattle.sets.specs.Members.{most_members, has_member, all_of, members_of, set_of, tidy};
 ghost use Rattle.sets.specs.SixSets.{size, everyone, member_ok, unpacked_six, packed_six, tidy_six, no_sets};
@@ -19,6 +19,21 @@ pub struct SixSets {
     pub outgoing: Members,
     pub lost: Members,
     pub terminating: Members,
+}
+
+// Whether each of these sets has zeros after its members.
+fn all_tidy(sets: &[Members]) -> bool
+    ensures { result ≡ list_all tidy sets.now }
+{
+    sets.iter().all(|members| members.is_tidy())
+}
+
+// Whether each member of these sets is sound by itself in the set of its name.
+fn all_sound(sets: &[(SetName, Members)], limits: Limits) -> bool
+    ensures { result ≡ list_all (λ set. all_of (member_ok limits set.0) (members_of set.1)) sets.now }
+{
+    sets.iter()
+        .all(|(name, members)| members.are_sound(*name, limits))
 }
 
 impl SixSets {
@@ -83,11 +98,25 @@ impl SixSets {
         }
     }
 
+    // The sets in the order of their names.
+    fn in_order(self) -> [Members; 6]
+        ensures { result ≡ map (λ name. held_set name self) six_names }
+    {
+        [
+            self.calling,
+            self.contacted,
+            self.incoming,
+            self.outgoing,
+            self.lost,
+            self.terminating,
+        ]
+    }
+
     // Whether each set has zeros after its members.
     fn are_tidy(self) -> bool
         ensures { result ≡ list_all (λ name. tidy (held_set name self)) six_names }
     {
-        SetName::ALL.iter().all(|name| self.set(*name).is_tidy())
+        all_tidy(&self.in_order())
     }
 
     // How many members there are in all.
@@ -106,9 +135,15 @@ impl SixSets {
     fn are_sound(self, limits: Limits) -> bool
         ensures { result ≡ list_all (λ name. all_of (member_ok limits name) (members_of (held_set name self))) six_names }
     {
-        SetName::ALL
-            .iter()
-            .all(|name| self.set(*name).are_sound(*name, limits))
+        let sets = [
+            (SetName::Calling, self.calling),
+            (SetName::Contacted, self.contacted),
+            (SetName::IncomingSessions, self.incoming),
+            (SetName::OutgoingSessions, self.outgoing),
+            (SetName::LostSessions, self.lost),
+            (SetName::TerminatingSessions, self.terminating),
+        ];
+        all_sound(&sets, limits)
     }
 
     // The union of the six.
@@ -117,8 +152,8 @@ impl SixSets {
         ensures { result ≡ set_of (everyone (unpacked_six self)) }
     {
         let mut all = Members::none();
-        for name in SetName::ALL {
-            all = all.joined(self.set(name));
+        for members in self.in_order() {
+            all = all.joined(members);
         }
         all
     }

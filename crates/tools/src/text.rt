@@ -24,12 +24,60 @@ pub fn put(out: &mut [u8], at: usize, words: &[u8]) -> usize {
     page.position() as usize
 }
 
-// Puts a text at an offset of a buffer, as far as it fits, and answers the offset behind it.
-pub(crate) fn put_text<T: Display + Drop>(out: &mut [u8], at: usize, text: T) -> usize {
+// Room for the pieces of a line, which are gathered before they are put: the library's way from a lent buffer to a `Display` takes a
+// hundred instructions for each piece.
+const LINE_ROOM: usize = 1024;
+
+// The pieces of a line while they come.
+#[derive(Clone, Copy)]
+struct Gathering {
+    bytes: [u8; LINE_ROOM],
+    used: usize,
+}
+
+impl fmt::Write for Gathering {
+    // A piece that there is no room for is not taken.
+    fn write_str(&mut self, piece: &str) -> fmt::Result {
+        let bytes = piece.as_bytes();
+        let n = bytes.len();
+        let Some(room) = self
+            .bytes
+            .get_mut(self.used..)
+            .and_then(|rest| rest.get_mut(..n))
+        else {
+            return Err(fmt::Error);
+        };
+        room.copy_from_slice(bytes);
+        self.used = self.used.wrapping_add(n);
+        Ok(())
+    }
+}
+
+// Puts a text at an offset of a buffer piece by piece, as far as it fits, and answers the offset behind it.
+fn put_pieces<T: Display>(out: &mut [u8], at: usize, text: &T) -> usize {
     let mut page = Cursor::new(out);
     page.set_position(at as u64);
     let _ = write!(page, "{text}");
     page.position() as usize
+}
+
+// Puts a text at an offset of a buffer, as far as it fits, and answers the offset behind it.
+pub(crate) fn put_text<T: Display + Drop>(out: &mut [u8], at: usize, text: T) -> usize {
+    let mut gathered = Gathering {
+        bytes: [0; LINE_ROOM],
+        used: 0,
+    };
+    if fmt::Write::write(&mut gathered, &text).is_err() {
+        return put_pieces(out, at, &text);
+    }
+    put(
+        out,
+        at,
+        gathered
+            .bytes
+            .get(..gathered.used)
+            .unwrap_or(&gathered.bytes),
+    )
 }
 
 // Puts a number in decimal, and answers the offset behind it.

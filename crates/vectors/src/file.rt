@@ -1,8 +1,12 @@
 // A file of vectors, one after the other: each is the length of its body in two bytes, high byte first, and the body.
+use crate::tally::Tally;
 use std::io;
 use std::io::Read;
 use streams::files::open_read;
 use streams::{fail, read_full};
+
+// The most bytes of a vector of `judge_file`.
+const LONGEST: usize = 8192;
 
 // What is made of the vectors of a file.
 pub trait Judge: Drop {
@@ -57,9 +61,9 @@ fn judge_all<P: Print, F: Read, J: Judge>(
     Ok(())
 }
 
-// Judges all vectors of a file, each in a room of the most bytes that one may have, and writes the report to standard output; that the
+// Has all vectors of a file judged, each in a room of the most bytes that one may have, and writes the report to standard output; that the
 // file cannot be opened is told on standard error.
-pub fn judge_file<J: Judge>(
+pub fn judge_each<J: Judge>(
     rt: &HostRuntime,
     name: &[u8],
     room: &mut [u8],
@@ -72,4 +76,15 @@ pub fn judge_file<J: Judge>(
         }
         Err(error) => fail(&rt.stderr(), name, error),
     }
+}
+
+// A reference to an array of this length is lent on as a slice with no proof; an array of so many zeros is not.
+fn judge_in(rt: &HostRuntime, name: &[u8], room: &mut [u8; LONGEST]) -> io::Result<()> {
+    judge_each(rt, name, room, Tally::default())
+}
+
+// Judges all vectors of a file and writes the report to standard output; that the file cannot be opened is told on standard error.
+pub fn judge_file(rt: &HostRuntime, name: &[u8]) -> io::Result<()> {
+    let mut room = [0u8; LONGEST];
+    judge_in(rt, name, &mut room)
 }

@@ -15,7 +15,7 @@ struct Count {
 }
 
 // Vectors of each group, of no group, and in all.
-#[derive(Default, Drop)]
+#[derive(Clone, Copy, Default)]
 pub struct Tally {
     groups: [Count; 13],
     ungrouped: Count,
